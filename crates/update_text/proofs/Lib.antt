@@ -1,0 +1,5 @@
+mod Decimals
+mod Runs
+mod Reading
+mod Placing
+mod Writing
