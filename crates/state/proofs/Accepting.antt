@@ -9,7 +9,7 @@ use Rattle.state.specs.declared.raw.RawState.{RawState}
 use Rattle.state.specs.declared.refusal.Refusal.{Refusal}
 use Rattle.state.specs.declared.refusal.Refusal.the-variants.{NoSuchPlace, BadNumber, OverLimit, Shut, Settled, WrongTotal, NotNewer, BadSeal, InContest, ParentNotAgreed, AllotmentBound, NothingAgreed, TooEarly, NothingPosted, BadStep, LastBlock, NoSealsLeft, BadLine, TooSmall, BadSetUp}
 use Rattle.state.specs.declared.state.State.{State}
-use Rattle.state.specs.Refusals.{told, first}
+use Rattle.state.specs.Refusals.{told, accepted, first}
 use Rattle.state.specs.States.{words, rawWords, makingChecks}
 use Rattle.state.proofs.Same.{cons-same}
 
@@ -36,11 +36,11 @@ told-above (BadLine line) = omega arith
 told-above TooSmall = omega arith
 told-above BadSetUp = omega arith
 
-pub told-not-accepted : (e : Refusal) → told e ≡ (0, []) → ⊥
+pub told-not-accepted : (e : Refusal) → told e ≡ accepted → ⊥
 told-not-accepted e h = let a = told-above e in let z : told e .0 ≡ 0 = ap (λ (p : ℕ × List ℕ). p .0) h in omega arith
 
 -- the figures of a state pass the checks of making it
-pub figures-accepted : (s : State) (raw : RawState) → words s ≡ rawWords raw → first (makingChecks raw) ≡ (0, [])
+pub figures-accepted : (s : State) (raw : RawState) → words s ≡ rawWords raw → first (makingChecks raw) ≡ accepted
 figures-accepted s raw e =
     let p = cons-same _ _ _ _ e in
     let n = cons-same _ _ _ _ (p .1) in

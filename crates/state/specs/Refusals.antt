@@ -31,20 +31,27 @@ told TooSmall = (19, [])
 told BadSetUp = (20, [])
 
 -- what any answer tells: a refusal as above, and 0 where the call is accepted
+abbrev pub accepted : ℕ × List ℕ
+accepted = (0, [])
+
+-- a refusal that has no values
+abbrev pub refused : ℕ → ℕ × List ℕ
+refused n = (n, [])
+
 abbrev pub answer : {A : Type 0} → Result A Refusal → ℕ × List ℕ
-answer (Ok x) = (0, [])
+answer (Ok x) = accepted
 answer (Err e) = told e
 
--- checks in their order, each with the number of its refusal: the first that fails is told, and if none does the call is accepted
 abbrev pub either : Bool → ℕ × List ℕ → ℕ × List ℕ → ℕ × List ℕ
 either true x y = x
 either false x y = y
 
+-- checks in their order, each with the number of its refusal: the first that is true is told, and if none is, the call is accepted
 abbrev pub first : List (Bool × ℕ) → ℕ × List ℕ
-first [] = (0, [])
-first (c ∷ cs) = either (c .0) (c .1, []) (first cs)
+first [] = accepted
+first (c ∷ cs) = either (c .0) (refused (c .1)) (first cs)
 
--- a refused call leaves what it was given as it was, and an accepted one as `accepted` says
+-- a refused call leaves what it was given as it was, and an accepted one as `made` says
 abbrev pub Leaves : {A S : Type 0} → Result A Refusal → S → S → (A → Type 0) → Type 0
-Leaves (Ok x) before after accepted = accepted x
-Leaves (Err e) before after accepted = after ≡ before
+Leaves (Ok x) before after made = made x
+Leaves (Err e) before after made = after ≡ before

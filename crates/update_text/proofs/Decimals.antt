@@ -95,3 +95,16 @@ has-line key bs part v n e l h =
     let len = ap length e ∙ length-append key part in
     let d : drop (length key + n) bs ≡ drop n part = sym (drop-drop n (length key) bs) ∙ ap (λ xs. drop n (drop (length key) xs)) e ∙ ap (drop n) (drop-at key part (length key) refl) in
     (omega arith, (h .0, e ∙ ap (λ xs. key ++ xs) (h .1) ∙ sym (line-is key (drop n part) v) ∙ ap (λ xs. line key v ++ xs) (sym d)))
+
+-- a leading zero of the digits is one of the text
+pub lead-in : (bs : List ℕ) (r : ℕ) → 0 < r → r ≤ length bs → (1 < length (take r bs)) × (getD (take r bs) 0 0 ≡ 48) → (1 < r) × (getD bs 0 0 ≡ 48)
+lead-in bs r some within h =
+    let len = length-take-le r bs within in
+    let first = getD-take r bs 0 0 some in
+    let l = h .0 in
+    (omega arith, sym first ∙ h .1)
+
+pub lead-out : (bs : List ℕ) (r : ℕ) → 0 < r → r ≤ length bs → 1 < r → getD bs 0 0 ≡ 48 → (1 < length (take r bs)) × (getD (take r bs) 0 0 ≡ 48)
+lead-out bs r some within l z =
+    let len = length-take-le r bs within in
+    (omega arith, getD-take r bs 0 0 some ∙ z)

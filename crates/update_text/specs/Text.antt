@@ -10,7 +10,7 @@ use Rattle.std.specs.declared.result.Result.the-variants.{Ok, Err}
 use Rattle.state.specs.declared.raw.RawState.{RawState}
 use Rattle.state.specs.declared.refusal.Refusal.{Refusal}
 use Rattle.state.specs.declared.update.Update.{Update}
-use Rattle.state.specs.Refusals.{told, answer, first, Leaves}
+use Rattle.state.specs.Refusals.{told, answer, accepted, first, Leaves}
 use Rattle.state.specs.States.{words, rawWords, makingChecks}
 use Rattle.update_text.specs.Line.{lines, keys, FirstBad, Values}
 
@@ -47,7 +47,7 @@ pub record Reads (bs : List ℕ) (r : Result Update Refusal) : Type 0 where
 
 -- making a state of these figures answers so, and what was made has them and this seal
 abbrev pub Made : RawState → ℕ → Result Update Refusal → Type 0
-Made raw seal (Ok u) = ((0, []) ≡ first (makingChecks raw)) × (words (u .state) ≡ rawWords raw) × (u .seal ≡ seal)
+Made raw seal (Ok u) = (accepted ≡ first (makingChecks raw)) × (words (u .state) ≡ rawWords raw) × (u .seal ≡ seal)
 Made raw seal (Err e) = told e ≡ first (makingChecks raw)
 
 -- the buffer `old` with `t` written from `pos` on, and nothing else changed

@@ -2,6 +2,7 @@ ghost use Prim.Native.Nat.{ℕ, _+_, _-_, _*_, _^_, _<_, _≤_};
 ghost use lib.ListN.{length, getD};
 ghost use mathlib.Core.Path.{_≡_};
 ghost use Rattle.std.specs.Options.{Cases as BySome};
+ghost use Rattle.std.specs.Orderings.{Decides};
 ghost use Rattle.std.specs.Results.{Cases};
 ghost use Rattle.std.specs.Text.{In};
 ghost use Rattle.update_text.specs.Line.{AllDigits, readOn, ReadsValue, ReadsLine, FirstBad, Values};
@@ -38,6 +39,13 @@ fn number(digits: &[u8]) -> Option<u64>
     Some(value)
 }
 
+// Whether the digits begin with a zero that is not the whole number.
+fn leading_zero(digits: &[u8]) -> bool
+    ensures { λ r. ⌜ Decides r ((1 < length (now (digits .entry))) × (getD (now (digits .entry)) 0 0 ≡ 48)) ⌝ }
+{
+    digits.len() > 1 && digits[0] == b'0'
+}
+
 // The number that `src` begins with and that a newline ends, and the length of both.
 fn value(src: &[u8]) -> Option<(u64, usize)>
     ensures { λ r. ⌜ ReadsValue (now (src .entry)) r ⌝ }
@@ -46,7 +54,7 @@ fn value(src: &[u8]) -> Option<(u64, usize)>
     if count == 0 || count == src.len() || src[count] != b'\n' {
         return None;
     }
-    if count > 1 && src[0] == b'0' {
+    if leading_zero(&src[..count]) {
         return None;
     }
     let value = number(&src[..count])?;

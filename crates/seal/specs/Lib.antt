@@ -1,0 +1,3 @@
+pub mod Registers
+pub mod Seals
+pub mod Tags
