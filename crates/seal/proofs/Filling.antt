@@ -56,15 +56,20 @@ holds-only (row ∷ rows) x y (suc k) h =
 pub row-signs : (rows after : List State) (x : State) (k : ℕ) → length rows < 256 → k ≡ length rows → after ≡ rows ++ (x ∷ []) → Signs RowGives (rowSeals rows) x (Ok k) (rowSeals after)
 row-signs rows after x k l ek e =
     let n = ap length e ∙ length-push rows x in
-    record
-    { answers = grind (arith, tells)
-    ; leaves =
-        ( record
-          { sealed = ap (λ s. holds s k x) e ∙ ap (λ j. holds (rows ++ (x ∷ [])) j x) ek ∙ holds-new rows x
-          ; fewer = omega arith
-          ; keeps = λ y j h. ap (λ s. holds s j y) e ∙ holds-still rows x y j h }
-        , ( omega arith
-          , λ y j h. ⊎-elim (λ (a : holds rows j y ≡ true). inl a) (λ (b : (y ≡ x) × (j ≡ length rows)). inr (b .0, b .1 ∙ sym ek)) (holds-only rows x y j (ap (λ s. holds s j y) (sym e) ∙ h)) ) ) }
+    record {
+      answers = grind (arith, tells);
+      leaves = (
+        record {
+          sealed = ap (λ s. holds s k x) e ∙ ap (λ j. holds (rows ++ (x ∷ [])) j x) ek ∙ holds-new rows x;
+          fewer = omega arith;
+          keeps = λ y j h. ap (λ s. holds s j y) e ∙ holds-still rows x y j h;
+        },
+        (
+          omega arith,
+          λ y j h. ⊎-elim (λ (a : holds rows j y ≡ true). inl a) (λ (b : (y ≡ x) × (j ≡ length rows)). inr (b .0, b .1 ∙ sym ek)) (holds-only rows x y j (ap (λ s. holds s j y) (sym e) ∙ h)),
+        ),
+      );
+    }
 
 -- whether a filled row holds a state is whether the words are the same
 pub row-decides : (rows : List State) (n k : ℕ) (row x : State) (r : Bool) → k < length (take n rows) → row ≡ getD rows k row → Decides r (words row ≡ words x) → r ≡ holds (take n rows) k x

@@ -35,7 +35,10 @@ impl Register {
     pub fn new() -> Register
         ensures { λ r. ⌜ signed r ≡ [] ⌝ }
     {
-        Register { rows: [State::blank(); ROWS], filled: 0 }
+        Register {
+            rows: [State::blank(); ROWS],
+            filled: 0,
+        }
     }
 
     // How many rows are filled, and what being good means of any pair.

@@ -56,6 +56,10 @@ impl TagScheme {
         if limit < 1 || limit > MAX_LIMIT {
             return Err(Refusal::BadSetUp);
         }
-        Ok(TagScheme { k0: guard.key.k0, k1: guard.key.k1, left: limit })
+        Ok(TagScheme {
+            k0: guard.key.k0,
+            k1: guard.key.k1,
+            left: limit,
+        })
     }
 }

@@ -13,19 +13,21 @@ use Rattle.state.specs.Limits.{maxPlace, minNumber, maxNumber, maxTotal, parti
 use Rattle.state.specs.States.{words}
 
 number-same : (m n : StateNumber) → m .value ≡ n .value → m ≡ n
-number-same m n e = λ i. record
-    { value = e i
-    ; low = isProp→PathP (λ i. minNumber ≤ e i) (λ i. le-prop) (m .low) (n .low) i
-    ; high = isProp→PathP (λ i. e i ≤ maxNumber) (λ i. le-prop) (m .high) (n .high) i }
+number-same m n e = λ i. record {
+  value = e i;
+  low = isProp→PathP (λ i. minNumber ≤ e i) (λ i. le-prop) (m .low) (n .low) i;
+  high = isProp→PathP (λ i. e i ≤ maxNumber) (λ i. le-prop) (m .high) (n .high) i;
+}
 
 figures-same : (s t : State) → s .place ≡ t .place → s .number .value ≡ t .number .value → s .amounts ≡ t .amounts → s ≡ t
-figures-same s t p n a = λ i. record
-    { place = p i
-    ; number = number-same (s .number) (t .number) n i
-    ; amounts = a i
-    ; placed = isProp→PathP (λ i. p i ≤ maxPlace) (λ i. le-prop) (s .placed) (t .placed) i
-    ; long = isProp→PathP (λ i. length (a i) ≡ parties) (λ i. ℕ-set (length (a i)) parties) (s .long) (t .long) i
-    ; capped = isProp→PathP (λ i. sum (a i) ≤ maxTotal) (λ i. le-prop) (s .capped) (t .capped) i }
+figures-same s t p n a = λ i. record {
+  place = p i;
+  number = number-same (s .number) (t .number) n i;
+  amounts = a i;
+  placed = isProp→PathP (λ i. p i ≤ maxPlace) (λ i. le-prop) (s .placed) (t .placed) i;
+  long = isProp→PathP (λ i. length (a i) ≡ parties) (λ i. ℕ-set (length (a i)) parties) (s .long) (t .long) i;
+  capped = isProp→PathP (λ i. sum (a i) ≤ maxTotal) (λ i. le-prop) (s .capped) (t .capped) i;
+}
 
 pub cons-same : (x y : ℕ) (xs ys : List ℕ) → x ∷ xs ≡ y ∷ ys → (x ≡ y) × (xs ≡ ys)
 cons-same x y xs ys e = (cc, cc)

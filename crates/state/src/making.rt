@@ -12,6 +12,7 @@ use crate::state::State;
 use crate::total::sum_within;
 
 pub const MAX_PLACE: u64 = 63;
+
 pub const MAX_TOTAL: u64 = 2_100_000_000_000_000;
 
 // The state of figures that are within the limits.
@@ -20,7 +21,11 @@ fn within_limits(place: usize, number: StateNumber, amounts: [u64; 8]) -> State
     requires total { ⌜ sum amounts ≤ maxTotal ⌝ }
     ensures { λ r. ⌜ words r ≡ place ∷ number .value ∷ amounts ⌝ }
 {
-    State { place, number, amounts }
+    State {
+        place,
+        number,
+        amounts,
+    }
 }
 
 impl State {
@@ -28,7 +33,11 @@ impl State {
     pub fn blank() -> State
         ensures { λ r. ⌜ words r ≡ blankWords ⌝ }
     {
-        State { place: 0, number: StateNumber { value: 1 }, amounts: [0; 8] }
+        State {
+            place: 0,
+            number: StateNumber { value: 1 },
+            amounts: [0; 8],
+        }
     }
 
     // Overwrites this state by the raw figures; a refusal leaves it as it was.

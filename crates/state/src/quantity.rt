@@ -5,9 +5,13 @@ ghost use Rattle.std.specs.Options.{Cases as BySome};
 ghost use Rattle.state.specs.Limits.{maxHeight, minDelay, maxDelay, minNumber, maxNumber};
 
 pub const MAX_HEIGHT: u32 = 10_000_000;
+
 pub const MIN_DELAY: u32 = 2;
+
 pub const MAX_DELAY: u32 = 2_016;
+
 pub const MIN_NUMBER: u32 = 1;
+
 pub const MAX_NUMBER: u32 = 1_000_000_000;
 
 // A block height of a ledger.
@@ -41,7 +45,9 @@ impl Height {
         if blocks > MAX_HEIGHT as u64 {
             return None;
         }
-        Some(Height { blocks: blocks as u32 })
+        Some(Height {
+            blocks: blocks as u32,
+        })
     }
 }
 
@@ -53,7 +59,9 @@ impl Delay {
         if blocks < MIN_DELAY as u64 || blocks > MAX_DELAY as u64 {
             return None;
         }
-        Some(Delay { blocks: blocks as u32 })
+        Some(Delay {
+            blocks: blocks as u32,
+        })
     }
 }
 
@@ -65,6 +73,8 @@ impl StateNumber {
         if value < MIN_NUMBER as u64 || value > MAX_NUMBER as u64 {
             return None;
         }
-        Some(StateNumber { value: value as u32 })
+        Some(StateNumber {
+            value: value as u32,
+        })
     }
 }

@@ -4,7 +4,7 @@ ghost use Rattle.std.specs.Options.{Cases as BySome};
 ghost use Rattle.std.specs.shelf.Lists.{sum};
 
 // The sum of the amounts, if it is at most `limit`. No addition can wrap.
-pub fn sum_within(amounts: &[u64; 8], limit: u64) -> Option<u64>
+pub(crate) fn sum_within(amounts: &[u64; 8], limit: u64) -> Option<u64>
     ensures { λ r. ⌜ BySome r (limit < sum (now (amounts .entry))) (λ t. (t ≡ sum (now (amounts .entry))) × (t ≤ limit)) ⌝ }
 {
     let mut total = 0;

@@ -49,12 +49,13 @@ counted bs rest v r f e within all next =
     let same : r ≡ n = omega arith in
     let front : take r bs ≡ ds = ap (take r) e ∙ take-at ds (10 ∷ rest) r (sym same) in
     let pos = decimal-some v f in
-    record
-    { some = omega arith
-    ; inside = omega arith
-    ; newline = ap (λ k. getD bs k 0) same ∙ stop
-    ; plain = λ l z. plain-decimal v f (omega arith) (sym (at 0 pos) ∙ z)
-    ; reads = ap (readOn 0) front ∙ value-decimal own v f }
+    record {
+      some = omega arith;
+      inside = omega arith;
+      newline = ap (λ k. getD bs k 0) same ∙ stop;
+      plain = λ l z. plain-decimal v f (omega arith) (sym (at 0 pos) ∙ z);
+      reads = ap (readOn 0) front ∙ value-decimal own v f;
+    }
 
 -- what was counted is the number and the newline
 pub found : (bs : List ℕ) (v r : ℕ) → ((k : ℕ) → k < r → In 48 57 (getD bs k 0)) → 0 < r → r < length bs → getD bs r 0 ≡ 10

@@ -62,4 +62,3 @@ then-more old mid part xs ys a b ea eb em ep =
 pub line-length : (k : List ℕ) (n : ℕ) → length (line k n) ≡ length k + length (decimal n) + 1
 unfolding line
 line-length k n = omega (arith, length-append (k ++ decimal n) (10 ∷ []), length-append k (decimal n))
-

@@ -37,15 +37,15 @@ values-fit u f (suc (suc i)) =
     let l = u .state .long in
     ⊎-elim
     (λ (h : i < length xs).
-        let a = getD-append-left xs (k ∷ []) 0 i h in
-        let b = getD-le-sumBy (λ x. x) xs i 0 h in
-        let d = u .state .capped in
-        omega arith)
+    let a = getD-append-left xs (k ∷ []) 0 i h in
+    let b = getD-le-sumBy (λ x. x) xs i 0 h in
+    let d = u .state .capped in
+    omega arith)
     (λ (h : length xs ≤ i).
-        ⊎-elim
-        (λ (e : i ≡ 8). let a : getD (xs ++ (k ∷ [])) i 0 ≡ k = ap (λ j. getD (xs ++ (k ∷ [])) j 0) e ∙ getD-append-right xs (k ∷ []) 8 8 0 l (omega arith) in omega arith)
-        (λ (d : i ≡ 8 → ⊥). let a = getD-past (xs ++ (k ∷ [])) i 0 (omega (arith, length-push xs k)) in omega arith)
-        (cases-eq i 8))
+    ⊎-elim
+    (λ (e : i ≡ 8). let a : getD (xs ++ (k ∷ [])) i 0 ≡ k = ap (λ j. getD (xs ++ (k ∷ [])) j 0) e ∙ getD-append-right xs (k ∷ []) 8 8 0 l (omega arith) in omega arith)
+    (λ (d : i ≡ 8 → ⊥). let a = getD-past (xs ++ (k ∷ [])) i 0 (omega (arith, length-push xs k)) in omega arith)
+    (cases-eq i 8))
     (cases-lt i (length xs))
 
 values-text : (bs : List ℕ) (u : Update) → Sealed u → bs ≡ textOf u → Values bs (valuesOf u)
@@ -107,10 +107,11 @@ not-bad bs vs n h b =
 
 pub answers-bad : (bs : List ℕ) (n : ℕ) → FirstBad n bs → Reads bs (Err (BadLine n))
 answers-bad bs n h =
-    record
-    { because = inl (n, h, refl)
-    ; line = λ m b. ap (λ k. (18, k ∷ [])) (bad-once n m bs h b)
-    ; checks = λ raw seal v. absurd (not-bad bs (rawValues raw seal) n v h) }
+    record {
+      because = inl (n, h, refl);
+      line = λ m b. ap (λ k. (18, k ∷ [])) (bad-once n m bs h b);
+      checks = λ raw seal v. absurd (not-bad bs (rawValues raw seal) n v h);
+    }
 
 made-because : (bs : List ℕ) (raw : RawState) (seal : ℕ) (q : Result Update Refusal) → seal < 2 ^ 64 → Values bs (rawValues raw seal) → Made raw seal q → Because bs q
 unfolding textOf
@@ -126,10 +127,11 @@ made-answer raw seal (Err e) m = m
 
 pub answers-made : (bs : List ℕ) (raw : RawState) (seal : ℕ) → seal < 2 ^ 64 → Values bs (rawValues raw seal) → (q : Result Update Refusal) → Made raw seal q → Reads bs q
 answers-made bs raw seal f v q m =
-    record
-    { because = made-because bs raw seal q f v m
-    ; line = λ n b. absurd (not-bad bs (rawValues raw seal) n v b)
-    ; checks = λ other k w. made-answer raw seal q m ∙ ap (λ x. first (makingChecks x)) (raw-once raw other seal k (values-once bs _ _ v w)) }
+    record {
+      because = made-because bs raw seal q f v m;
+      line = λ n b. absurd (not-bad bs (rawValues raw seal) n v b);
+      checks = λ other k w. made-answer raw seal q m ∙ ap (λ x. first (makingChecks x)) (raw-once raw other seal k (values-once bs _ _ v w));
+    }
 
 -- the values of the lines are the raw figures and the seal
 pub raw-values : (vs amounts : List ℕ) → length vs ≡ length keys → amounts ≡ take 8 (drop 2 vs) → vs ≡ getD vs 0 0 ∷ getD vs 1 0 ∷ (amounts ++ (getD vs 10 0 ∷ []))
@@ -177,9 +179,11 @@ read-text bs u (Err x) f e r =
 
 pub one-to-one : OneToOne
 one-to-one =
-    record
-    { read-back = λ u old new pos end q f w r. read-text (part pos end new) u q f (written-text u old new pos end w) r
-    ; written-back = λ bs u old new pos end r w. written-text u old new pos end w ∙ sym (r .because .1)
-    ; same = λ a b u v ra rb.
-        ( (λ e. update-once u v (values-once a _ _ (values-text a u (ra .because .0) (ra .because .1)) (values-text a v (rb .because .0) (e ∙ rb .because .1))))
-        , (λ e. ra .because .1 ∙ ap textOf e ∙ sym (rb .because .1)) ) }
+    record {
+      read-back = λ u old new pos end q f w r. read-text (part pos end new) u q f (written-text u old new pos end w) r;
+      written-back = λ bs u old new pos end r w. written-text u old new pos end w ∙ sym (r .because .1);
+      same = λ a b u v ra rb. (
+        (λ e. update-once u v (values-once a _ _ (values-text a u (ra .because .0) (ra .because .1)) (values-text a v (rb .because .0) (e ∙ rb .because .1)))),
+        (λ e. ra .because .1 ∙ ap textOf e ∙ sym (rb .because .1)),
+      );
+    }

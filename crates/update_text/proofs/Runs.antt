@@ -113,11 +113,12 @@ line-more bs vs key part at i v n len fit l within e ek ep ln b =
     let new : lines keys (take (i + 1) (set vs i v)) ≡ front ++ line key v = ap (lines keys) t ∙ push ∙ ap (λ k. front ++ line k v) key-is in
     let d : drop n part ≡ drop (at + n) bs = ap (drop n) ep ∙ drop-drop n at bs in
     let rest : drop at bs ≡ line key v ++ drop (at + n) bs = sym ep ∙ b .1 ∙ ap (λ xs. line key v ++ xs) d in
-    let pl : length part ≡ length bs - at = ap length ep ∙ length-drop at bs in
-    ( length-set vs i v ∙ len
-    , omega arith
-    , fit-set vs i v (omega arith) fit (b .0)
-    , e ∙ ap (λ xs. front ++ xs) rest ∙ sym (append-assoc front (line key v) (drop (at + n) bs)) ∙ ap (λ xs. xs ++ drop (at + n) bs) (sym new) )
+    let pl : length part ≡ length bs - at = ap length ep ∙ length-drop at bs in (
+      length-set vs i v ∙ len,
+      omega arith,
+      fit-set vs i v (omega arith) fit (b .0),
+      e ∙ ap (λ xs. front ++ xs) rest ∙ sym (append-assoc front (line key v) (drop (at + n) bs)) ∙ ap (λ xs. xs ++ drop (at + n) bs) (sym new),
+    )
 
 begins-elsewhere : (key part bs other : List ℕ) (v : ℕ) (rest : List ℕ) → other ≡ key → part ≡ bs → ((v : ℕ) (rest : List ℕ) → Begins key part v rest → ⊥) → Begins other bs v rest → ⊥
 begins-elsewhere key part bs other v rest e p none b = none v rest (b .0, p ∙ b .1 ∙ ap (λ k. line k v ++ rest) e)
@@ -128,14 +129,15 @@ pub line-bad : (bs vs key part : List ℕ) (at i : ℕ) → length vs ≡ length
 line-bad bs vs key part at i len fit l e ek ep none =
     let tl : length (take i vs) ≡ i = length-take-le i vs (omega arith) in
     let kl = keys-length in
-    let key-is : getD keys (length (take i vs)) [] ≡ key = ap (λ k. getD keys k []) tl ∙ sym ek in
-    ( omega arith
-    , omega arith
-    , record { values = take i vs; rest = drop at bs; count = omega arith; fits = fit-take vs i fit; is = e; ended = λ h. absurd (omega arith) }
-    , λ g.
-        let gc = g .count in
-        let s = goes-on keys (take i vs) (g .values) (drop at bs) (g .rest) (fit-take vs i fit) (g .fits) (omega arith) (omega arith) (sym e ∙ g .is) in
-        begins-elsewhere key part (drop at bs) (getD keys (length (take i vs)) []) (s .0) (s .1) key-is ep none (s .2) )
+    let key-is : getD keys (length (take i vs)) [] ≡ key = ap (λ k. getD keys k []) tl ∙ sym ek in (
+      omega arith,
+      omega arith,
+      record { values = take i vs; rest = drop at bs; count = omega arith; fits = fit-take vs i fit; is = e; ended = λ h. absurd (omega arith) },
+      λ g.
+          let gc = g .count in
+          let s = goes-on keys (take i vs) (g .values) (drop at bs) (g .rest) (fit-take vs i fit) (g .fits) (omega arith) (omega arith) (sym e ∙ g .is) in
+          begins-elsewhere key part (drop at bs) (getD keys (length (take i vs)) []) (s .0) (s .1) key-is ep none (s .2),
+    )
 
 pub all-lines : (bs vs : List ℕ) (at i : ℕ) → length vs ≡ length keys → length keys ≤ i → bs ≡ lines keys (take i vs) ++ drop at bs → bs ≡ lines keys vs ++ drop at bs
 all-lines bs vs at i len l e = e ∙ ap (λ xs. lines keys xs ++ drop at bs) (take-all i vs (omega arith))
@@ -143,17 +145,18 @@ all-lines bs vs at i len l e = e ∙ ap (λ xs. lines keys xs ++ drop at bs) (ta
 -- bytes after the last line
 pub more-bytes : (bs vs : List ℕ) (at : ℕ) → length vs ≡ length keys → Fit vs → at < length bs → bs ≡ lines keys vs ++ drop at bs → FirstBad (length keys + 1) bs
 more-bytes bs vs at len fit l e =
-    let kl = keys-length in
-    ( omega arith
-    , omega arith
-    , record { values = vs; rest = drop at bs; count = omega arith; fits = fit; is = e; ended = λ h. absurd (omega arith) }
-    , λ g.
-        let gc = g .count in
-        let s = one-run keys vs (g .values) (drop at bs) (g .rest) fit (g .fits) (omega arith) (omega arith) (sym e ∙ g .is) in
-        let z : drop at bs ≡ [] = s .1 ∙ g .ended (omega arith) in
-        let d = length-drop at bs in
-        let n : length (drop at bs) ≡ 0 = ap length z in
-        omega arith )
+    let kl = keys-length in (
+      omega arith,
+      omega arith,
+      record { values = vs; rest = drop at bs; count = omega arith; fits = fit; is = e; ended = λ h. absurd (omega arith) },
+      λ g.
+          let gc = g .count in
+          let s = one-run keys vs (g .values) (drop at bs) (g .rest) fit (g .fits) (omega arith) (omega arith) (sym e ∙ g .is) in
+          let z : drop at bs ≡ [] = s .1 ∙ g .ended (omega arith) in
+          let d = length-drop at bs in
+          let n : length (drop at bs) ≡ 0 = ap length z in
+          omega arith,
+    )
 
 pub no-more : (bs vs : List ℕ) (at : ℕ) → length bs ≤ at → bs ≡ lines keys vs ++ drop at bs → bs ≡ lines keys vs
 no-more bs vs at l e = e ∙ ap (λ xs. lines keys vs ++ xs) (drop-all at bs l) ∙ append-nil (lines keys vs)

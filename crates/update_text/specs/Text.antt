@@ -71,9 +71,9 @@ pub record Writes (u : Update) (old : List ℕ) (pos : ℕ) (r : Result ℕ Refu
 pub record OneToOne : Type 0 where
   -- what is written is read back as it was
   pub read-back : (u : Update) (old new : List ℕ) (pos end : ℕ) (q : Result Update Refusal)
-    → Sealed u → Writes u old pos (Ok end) new → Reads (part pos end new) q → q ≡ Ok u
+      → Sealed u → Writes u old pos (Ok end) new → Reads (part pos end new) q → q ≡ Ok u
   -- what is read writes back to the same bytes
   pub written-back : (bs : List ℕ) (u : Update) (old new : List ℕ) (pos end : ℕ)
-    → Reads bs (Ok u) → Writes u old pos (Ok end) new → part pos end new ≡ bs
+      → Reads bs (Ok u) → Writes u old pos (Ok end) new → part pos end new ≡ bs
   -- two accepted texts are equal exactly when their states and seals are
   pub same : (a b : List ℕ) (u v : Update) → Reads a (Ok u) → Reads b (Ok v) → (a ≡ b → u ≡ v) × (u ≡ v → a ≡ b)

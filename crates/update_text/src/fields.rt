@@ -27,7 +27,14 @@ pub(crate) fn read_fields(src: &[u8]) -> Result<Fields, usize>
         Ok(v) => {
             let mut amounts = [0; 8];
             amounts.copy_from_slice(&v[2..10]);
-            Ok(Fields { raw: RawState { place: v[0], number: v[1], amounts }, seal: v[10] })
+            Ok(Fields {
+                raw: RawState {
+                    place: v[0],
+                    number: v[1],
+                    amounts,
+                },
+                seal: v[10],
+            })
         }
     }
 }

@@ -13,7 +13,10 @@ fn checked(fields: Fields) -> Result<Update, Refusal>
     let mut state = State::blank();
     match state.make(fields.raw) {
         Err(refusal) => Err(refusal),
-        Ok(()) => Ok(Update { state, seal: fields.seal }),
+        Ok(()) => Ok(Update {
+            state,
+            seal: fields.seal,
+        }),
     }
 }
 

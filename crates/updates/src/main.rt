@@ -67,7 +67,11 @@ fn key_words(heap: Global, line: &[u8]) -> Result<Option<KeyRecord>, AllocError>
     };
     // `parse` also takes a sign and leading zeros
     let again = format!(heap, "{k0} {k1}")?;
-    if again.as_str() == text { Ok(Some(KeyRecord { k0, k1 })) } else { Ok(None) }
+    if again.as_str() == text {
+        Ok(Some(KeyRecord { k0, k1 }))
+    } else {
+        Ok(None)
+    }
 }
 
 fn print_state(rt: &LibcRuntime, update: Update) -> Result<(), AnyError> {
@@ -75,11 +79,11 @@ fn print_state(rt: &LibcRuntime, update: Update) -> Result<(), AnyError> {
     let place = state.place;
     let number = state.number.value;
     let total = state.total();
-    print!(rt, "place {place} number {number} amounts")?;
-    for amount in state.amounts {
-        print!(rt, " {amount}")?;
-    }
-    println!(rt, " total {total}")?;
+    let [a0, a1, a2, a3, a4, a5, a6, a7] = state.amounts;
+    println!(
+        rt,
+        "place {place} number {number} amounts {a0} {a1} {a2} {a3} {a4} {a5} {a6} {a7} total {total}"
+    )?;
     Ok(())
 }
 
@@ -87,7 +91,11 @@ fn print_state(rt: &LibcRuntime, update: Update) -> Result<(), AnyError> {
 fn print_tag(rt: &LibcRuntime, scheme: &mut TagScheme, update: Update) -> Result<(), AnyError> {
     let state = update.state;
     let seal = update.seal;
-    let good = if scheme.check(&state, seal) { "good" } else { "not good" };
+    let good = if scheme.check(&state, seal) {
+        "good"
+    } else {
+        "not good"
+    };
     match scheme.sign(&state) {
         Ok(tag) => println!(rt, "  tag {tag}, seal {seal} {good}")?,
         Err(refusal) => {
@@ -103,7 +111,11 @@ fn print_written(rt: &LibcRuntime, text: &[u8], update: Update) -> Result<(), An
     match write(&mut buf, 0, update) {
         Ok(end) => {
             let same = end <= BUFFER && &buf[0..end] == text;
-            let said = if same { "the same bytes" } else { "other bytes" };
+            let said = if same {
+                "the same bytes"
+            } else {
+                "other bytes"
+            };
             println!(rt, "  written again: {end} bytes, {said}")?;
         }
         Err(refusal) => {
@@ -143,7 +155,11 @@ fn print_texts(rt: &LibcRuntime, scheme: &mut TagScheme, input: &[u8]) -> Result
             accepted = accepted.saturating_add(1);
         }
         // past the text and the empty line that ends it
-        at = if at + len < input.len() { at + len + 1 } else { input.len() };
+        at = if at + len < input.len() {
+            at + len + 1
+        } else {
+            input.len()
+        };
     }
     let refused = count.saturating_sub(accepted);
     println!(rt, "{count} texts: {accepted} accepted, {refused} refused")?;
@@ -171,7 +187,11 @@ fn run(rt: &LibcRuntime) -> Result<(), AnyError> {
     let Some(mut key) = key_words(heap, &input[0..len])? else {
         return Err("line 1: expected two key words, decimal numbers below 2^64".into());
     };
-    let rest = if len < input.len() { &input[len + 1..] } else { &input[len..] };
+    let rest = if len < input.len() {
+        &input[len + 1..]
+    } else {
+        &input[len..]
+    };
     match TagScheme::set_up(&mut key, MAX_LIMIT) {
         Ok(mut scheme) => print_texts(rt, &mut scheme, rest),
         Err(refusal) => print_refusal(rt, refusal),

@@ -15,6 +15,7 @@ returns-in-Ok c =
     let vs = c .in-Ok .v in
     let h = c .in-Ok .ensures tt in
     let e = raw-values vs (c .copy-from-slice .last .self) (h .0) (c .copy-from-slice .ensures .after) in
-    record
-    { answers = answers-made bs (record { place = getD vs 0 0; number = getD vs 1 0; amounts = c .copy-from-slice .last .self }) (getD vs 10 0) (h .1 10) (subst (Values bs) e h)
-    ; laws = one-to-one }
+    record {
+      answers = answers-made bs (record { place = getD vs 0 0; number = getD vs 1 0; amounts = c .copy-from-slice .last .self }) (getD vs 10 0) (h .1 10) (subst (Values bs) e h);
+      laws = one-to-one;
+    }

@@ -42,9 +42,10 @@ returns c =
     let fits : c .in-Continue-value .value < 18446744073709551616 = search needs in
     let some : 0 < r = search needs in
     let plain : 1 < r → getD bs 0 0 ≡ 48 → ⊥ = λ l z.
-        let t = c .leading-zero .ensures .1 (lead-out bs r some (c .digits-count .ensures .within) l z) in
-        let f = c .if-leading-zero .left in
-        let clash : _≡_ {A = ℕ} 0 1 = cc in
-        omega arith in
-    ( search needs
-    , found bs (c .in-Continue-value .value) r (c .digits-count .ensures .all) some (search needs) (search needs) plain (c .in-Continue-value .ensures tt) fits )
+    let t = c .leading-zero .ensures .1 (lead-out bs r some (c .digits-count .ensures .within) l z) in
+    let f = c .if-leading-zero .left in
+    let clash : _≡_ {A = ℕ} 0 1 = cc in
+    omega arith in (
+      search needs,
+      found bs (c .in-Continue-value .value) r (c .digits-count .ensures .all) some (search needs) (search needs) plain (c .in-Continue-value .ensures tt) fits,
+    )

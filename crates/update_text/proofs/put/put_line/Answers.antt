@@ -18,6 +18,7 @@ returns c =
     let b = c .put-number .result in
     let one = then-more old (c .put-bytes-a .last .out) (c .put-number .last .out) key ds a b (c .put-bytes-a .ensures .len) (c .put-number .ensures .len) (c .put-bytes-a .ensures .after) (c .put-number .ensures .after) in
     let l : a + b ≡ length (key ++ ds) = omega (arith, length-append key ds, c .put-bytes-a .ensures .len, c .put-number .ensures .len) in
-    record
-    { len = omega (arith, c .put-bytes-a .ensures .len, c .put-number .ensures .len, c .put-bytes .ensures .len)
-    ; after = then-more old _ (c .put-bytes .last .out) (key ++ ds) (10 ∷ []) (a + b) (c .put-bytes .result) l (c .put-bytes .ensures .len) one (c .put-bytes .ensures .after) }
+    record {
+      len = omega (arith, c .put-bytes-a .ensures .len, c .put-number .ensures .len, c .put-bytes .ensures .len);
+      after = then-more old _ (c .put-bytes .last .out) (key ++ ds) (10 ∷ []) (a + b) (c .put-bytes .result) l (c .put-bytes .ensures .len) one (c .put-bytes .ensures .after);
+    }

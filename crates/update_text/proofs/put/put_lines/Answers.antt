@@ -70,9 +70,10 @@ loop-i-again c =
     let v = c .loop-i .inv .0 in
     let w = c .put-line-at .ensures .len in
     let p = c .pre in
-    let inside : c .args .pos ≤ length (c .args .buf .now) = omega arith in
-    ( omega arith
-    , place-line (c .args .buf .now) (c .loop-i .buf) (c .put-line-at .last .out) vs (c .key .result .now) (c .args .pos) (c .loop-i .at) i (c .put-line-at .result) l m (c .key .ensures) inside v w (c .loop-i .inv .1) (c .put-line-at .ensures .after) )
+    let inside : c .args .pos ≤ length (c .args .buf .now) = omega arith in (
+      omega arith,
+      place-line (c .args .buf .now) (c .loop-i .buf) (c .put-line-at .last .out) vs (c .key .result .now) (c .args .pos) (c .loop-i .at) i (c .put-line-at .result) l m (c .key .ensures) inside v w (c .loop-i .inv .1) (c .put-line-at .ensures .after),
+    )
 
 pub returns : need.returns
 returns c =

@@ -17,6 +17,7 @@ returns c =
     let seal = c .args .update .seal in
     let w : c .copy-from-slice .last .self ≡ words s = cc in
     let l : length (words s) ≡ 10 = omega (arith, s .long) in
-    record
-    { text = ap (λ (xs : List ℕ). lines keys (set (xs ++ (0 ∷ [])) 10 seal)) w ∙ ap (lines keys) (set-at (words s) 0 [] seal 10 l)
-    ; laws = one-to-one }
+    record {
+      text = ap (λ (xs : List ℕ). lines keys (set (xs ++ (0 ∷ [])) 10 seal)) w ∙ ap (lines keys) (set-at (words s) 0 [] seal 10 l);
+      laws = one-to-one;
+    }

@@ -11,7 +11,8 @@ pub returns : need.returns
 returns c =
     let s = c .args .self .now in
     let n = length-take-le (s .filled) (s .rows) (omega (arith, s .long, s .within)) in
-    record
-    { value = sym n
-    ; past = λ k x h. holds-past (signed s) k x (omega arith)
-    ; exact = holds-exact (signed s) }
+    record {
+      value = sym n;
+      past = λ k x h. holds-past (signed s) k x (omega arith);
+      exact = holds-exact (signed s);
+    }

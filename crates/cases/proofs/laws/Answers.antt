@@ -1,0 +1,13 @@
+use native.Mathlib.Omega.{arith}
+use Rattle.std.proofs.shelf.Ways.{tells}
+use Rattle.cases.proofs.laws.Needs as need
+
+pub returns : need.returns
+returns c =
+    record {
+      last-number = λ raw p t n. grind (arith, tells);
+      number-too-high = λ raw p n. grind (arith, tells);
+      number-zero = λ raw p n. grind (arith, tells);
+      full-total = λ raw p n t. let low = n .low in let high = n .high in grind (arith, tells);
+      total-too-high = λ raw p n t. let low = n .low in let high = n .high in grind (arith, tells);
+    }
