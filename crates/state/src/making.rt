@@ -11,6 +11,9 @@ use crate::refusal::Refusal;
 use crate::state::State;
 use crate::total::sum_within;
 
+// How many words a state has.
+pub const WORDS: usize = 10;
+
 pub const MAX_PLACE: u64 = 63;
 
 pub const MAX_TOTAL: u64 = 2_100_000_000_000_000;
@@ -69,13 +72,13 @@ impl State {
     }
 
     // The words of the state, in the order in which they are sealed and written.
-    pub fn words(&self) -> [u64; 10]
+    pub fn words(&self) -> [u64; WORDS]
         ensures { λ r. ⌜ r ≡ words (now (self .entry)) ⌝ }
     {
-        let mut words = [0; 10];
+        let mut words = [0; WORDS];
         words[0] = self.place as u64;
         words[1] = self.number.value as u64;
-        words[2..10].copy_from_slice(&self.amounts);
+        words[2..WORDS].copy_from_slice(&self.amounts);
         words
     }
 }

@@ -9,9 +9,13 @@ use Rattle.std.specs.declared.option.Option.{Option}
 use Rattle.std.specs.declared.option.Option.the-variants.{Some, None}
 
 -- the keys of an update text, in the order of its lines
-unfoldable pub keys : List (List ℕ)
-keys =
+abbrev pub keyList : List (List ℕ)
+keyList =
     codes "place=" ∷ codes "number=" ∷ codes "a0=" ∷ codes "a1=" ∷ codes "a2=" ∷ codes "a3=" ∷ codes "a4=" ∷ codes "a5=" ∷ codes "a6=" ∷ codes "a7=" ∷ codes "seal=" ∷ []
+
+-- the same, as one name for proofs
+unfoldable pub keys : List (List ℕ)
+keys = keyList
 
 -- a line: the key with its '=', the value's decimal digits and a newline
 unfoldable pub line : List ℕ → ℕ → List ℕ

@@ -7,6 +7,7 @@ ghost use Rattle.std.specs.Results.{Cases};
 ghost use Rattle.std.specs.declared.result.Result.{Result};
 ghost use Rattle.std.specs.declared.result.Result.the-variants.{Err};
 ghost use Rattle.update_text.specs.Text.{Made, Reads, OneToOne};
+use crate::keys::LINES;
 use crate::parse::values;
 use state::raw::RawState;
 
@@ -26,14 +27,14 @@ pub(crate) fn read_fields(src: &[u8]) -> Result<Fields, usize>
         Err(line) => Err(line),
         Ok(v) => {
             let mut amounts = [0; 8];
-            amounts.copy_from_slice(&v[2..10]);
+            amounts.copy_from_slice(&v[2..LINES - 1]);
             Ok(Fields {
                 raw: RawState {
                     place: v[0],
                     number: v[1],
                     amounts,
                 },
-                seal: v[10],
+                seal: v[LINES - 1],
             })
         }
     }

@@ -2,7 +2,7 @@ ghost use Prim.Native.Nat.{_<_};
 ghost use lib.ListN.{getD};
 ghost use mathlib.Core.List.{[]};
 ghost use mathlib.Core.Path.{_≡_};
-ghost use Rattle.update_text.specs.Line.{keys};
+ghost use Rattle.update_text.specs.Line.{keyList};
 
 // How many lines a text has.
 pub(crate) const LINES: usize = 11;
@@ -10,7 +10,7 @@ pub(crate) const LINES: usize = 11;
 // The key of a line, counted from 0.
 pub(crate) fn key(line: usize) -> &'static [u8]
     requires { ⌜ line < 11 ⌝ }
-    ensures { λ r. ⌜ now r ≡ getD keys line [] ⌝ }
+    ensures { λ r. ⌜ now r ≡ getD keyList line [] ⌝ }
 {
     match line {
         0 => b"place=",

@@ -5,8 +5,7 @@ use borrow.Author.Needs.{needs}
 use lib.ListN.{length, getD}
 use Rattle.std.proofs.shelf.Lists.{take-all}
 use Rattle.update_text.specs.Line.{lines, keys}
-use Rattle.update_text.proofs.Writing.{len-more, key-short}
-use Rattle.update_text.proofs.Runs.{keys-length}
+use Rattle.update_text.proofs.Writing.{next-line, key-short}
 use Rattle.update_text.proofs.put.lines_len.Needs as need
 
 pub loop-i-holds : need.loop-i-holds
@@ -17,11 +16,9 @@ pub loop-i-again : need.loop-i-again
 loop-i-again c =
     let vs = c .args .values .now in
     let i = c .loop-i .i in
-    let l : i < length vs = search needs in
-    let m : i < length keys = omega (arith, keys-length) in
-    let e = len-more vs (c .key .result .now) i l m (c .key .ensures) in
+    let n = next-line vs (c .key .result .now) i (search needs) (search needs) (c .key .ensures) in
     let k = key-short i in
-    let kl = ap length (c .key .ensures) in
+    let kl = ap length (n .is) in
     let d = c .digit-count .ensures in
     (omega arith, omega arith)
 

@@ -1,78 +1,45 @@
-use Prim.Native.Nat.{_+_, _-_, _^_, _<_, _≤_}
-use mathlib.Core.Path.{_≡_, refl, ap, _∙_, sym}
-use mathlib.Core.List.{_++_, append-nil}
+use Prim.Native.Nat.{_+_, _^_, _<_, _≤_}
+use mathlib.Core.Path.{ap}
 use native.Mathlib.Omega.{arith}
 use borrow.Author.Needs.{needs}
-use lib.ListN.{length, getD, take, drop}
-use Rattle.std.proofs.shelf.Lists.{take-all, take-append-drop, take-rest, length-drop}
-use Rattle.update_text.specs.Line.{lines, keys}
-use Rattle.update_text.proofs.Writing.{len-more, lines-le, place-line, place-all, place-none}
-use Rattle.update_text.proofs.Runs.{keys-length}
+use lib.ListN.{length}
+use Rattle.std.proofs.shelf.Lists.{take-rest, length-drop}
+use Rattle.update_text.proofs.Writing.{lines-le, next-line, place-line, place-all, place-none}
 use Rattle.update_text.proofs.put.put_lines.Needs as need
 
 pub loop-i-holds : need.loop-i-holds
 loop-i-holds c = place-none (c .args .buf .now) (c .args .pos)
 
 pub part-put-line-count : need.part-put-line-count
-part-put-line-count c =
-    let le = lines-le (c .args .values .now) (c .loop-i .i) in
-    let p = c .pre in
-    let v = c .loop-i .inv .0 in
-    let k = c .loop-i .kept .buf in
-    omega arith
+part-put-line-count c = omega (arith, lines-le (c .args .values .now) (c .loop-i .i), c .loop-i .inv .0)
 
 pub part-put-line-start : need.part-put-line-start
 part-put-line-start c =
-    let le = lines-le (c .args .values .now) (c .loop-i .i) in
-    let p = c .pre in
-    let v = c .loop-i .inv .0 in
-    let k = c .loop-i .kept .buf in
-    let h : c .loop-i .at ≤ length (c .loop-i .buf) = omega arith in
+    let h : c .loop-i .at ≤ length (c .loop-i .buf) = omega (arith, lines-le (c .args .values .now) (c .loop-i .i), c .loop-i .inv .0) in
     search needs
 
 pub put-line-at-requires : need.put-line-at-requires
 put-line-at-requires c κs =
-    let vs = c .args .values .now in
-    let i = c .loop-i .i in
-    let l : i < length vs = search needs in
-    let m : i < length keys = omega (arith, keys-length) in
-    let e = len-more vs (c .key .result .now) i l m (c .key .ensures) in
-    let le = lines-le vs (i + 1) in
+    let n = next-line (c .args .values .now) (c .key .result .now) (c .loop-i .i) (search needs) (search needs) (c .key .ensures) in
     let t = ap length (take-rest (c .loop-i .buf) (c .loop-i .at)) in
     let d = length-drop (c .loop-i .at) (c .loop-i .buf) in
-    let p = c .pre in
-    let v = c .loop-i .inv .0 in
-    let k = c .loop-i .kept .buf in
-    omega arith
+    omega (arith, c .loop-i .inv .0)
 
 pub add-at : need.add-at
 add-at c =
-    let vs = c .args .values .now in
-    let i = c .loop-i .i in
-    let l : i < length vs = search needs in
-    let m : i < length keys = omega (arith, keys-length) in
-    let e = len-more vs (c .key .result .now) i l m (c .key .ensures) in
-    let le = lines-le vs (i + 1) in
-    let p = c .pre in
-    let v = c .loop-i .inv .0 in
-    let w = c .put-line-at .ensures .len in
+    let n = next-line (c .args .values .now) (c .key .result .now) (c .loop-i .i) (search needs) (search needs) (c .key .ensures) in
     let f : length (c .args .buf .now) < 2 ^ 64 = search needs in
-    let h : c .loop-i .at + c .put-line-at .result < 2 ^ 64 = omega arith in
+    let h : c .loop-i .at + c .put-line-at .result < 2 ^ 64 = omega (arith, c .loop-i .inv .0, c .put-line-at .ensures .len) in
     search needs
 
 pub loop-i-again : need.loop-i-again
 loop-i-again c =
-    let vs = c .args .values .now in
-    let i = c .loop-i .i in
-    let l : i < length vs = search needs in
-    let m : i < length keys = omega (arith, keys-length) in
-    let e = len-more vs (c .key .result .now) i l m (c .key .ensures) in
-    let v = c .loop-i .inv .0 in
+    let n = next-line (c .args .values .now) (c .key .result .now) (c .loop-i .i) (search needs) (search needs) (c .key .ensures) in
+    let v = c .loop-i .inv in
     let w = c .put-line-at .ensures .len in
-    let p = c .pre in
     let inside : c .args .pos ≤ length (c .args .buf .now) = omega arith in (
       omega arith,
-      place-line (c .args .buf .now) (c .loop-i .buf) (c .put-line-at .last .out) vs (c .key .result .now) (c .args .pos) (c .loop-i .at) i (c .put-line-at .result) l m (c .key .ensures) inside v w (c .loop-i .inv .1) (c .put-line-at .ensures .after),
+      place-line (c .args .buf .now) (c .loop-i .buf) (c .put-line-at .last .out) (c .args .values .now) (c .key .result .now) (c .args .pos) (c .loop-i .at) (c .loop-i .i) (c .put-line-at .result) n inside (v .0) w (v .1) (c .put-line-at .ensures .after),
     )
 
 pub returns : need.returns
