@@ -1,2 +1,3 @@
 pub mod Accepting
+pub mod Checking
 pub mod Same

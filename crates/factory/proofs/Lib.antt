@@ -1,0 +1,3 @@
+pub mod Extended
+pub mod Making
+pub mod Laying
