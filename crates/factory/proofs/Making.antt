@@ -1,34 +1,21 @@
 -- A factory as it is made.
-use Prim.Native.Nat.{ℕ, zero, suc, _+_, _<_, _≤_}
+use Prim.Native.Nat.{ℕ, zero, suc, _<_, _≤_}
 use mathlib.Core.Path.{_≡_, refl, sym, ap, subst, _∙_}
-use mathlib.Core.Bool.{Bool, true, false, not, cond, _&&_, _||_}
+use mathlib.Core.Bool.{Bool, true, false, not, _&&_}
 use mathlib.Core.List.{List, [], _∷_, _++_, map}
 use native.Mathlib.Omega.{arith}
-use lib.Dec.{eqb, leb, ltb}
-use lib.ListN.{length, getD, drop}
-use Rattle.std.proofs.shelf.Lists.{getD-past, at-drop-more, at-drop-all}
-use Rattle.std.proofs.shelf.Tests.{and-parts, or-parts, eq-eqb, both-ways}
+use lib.Dec.{leb, ltb}
+use lib.ListN.{length, getD}
+use Rattle.std.proofs.shelf.Lists.{getD-past}
 use Rattle.std.proofs.shelf.Ways.{tells}
-use Rattle.std.specs.declared.option.Option.{Option}
-use Rattle.std.specs.declared.option.Option.the-variants.{Some, None}
 use Rattle.ledger.specs.declared.row.Row.{Row}
-use Rattle.ledger.specs.declared.view.Parent.{Parent}
-use Rattle.ledger.specs.Laws.{Lawful, Untouched, child}
+use Rattle.ledger.specs.Laws.{Lawful, Untouched, child, hasChildren}
 use Rattle.ledger.specs.Model.{Model, Place, Stage, fresh, nowhere, placeAt, valueBy, status, statusBy, showsState}
 use Rattle.ledger.specs.Rows.{stageOf}
 use Rattle.ledger.specs.SetUps.{goodDelays, delayMade, figures, newFigures}
-use Rattle.ledger.proofs.Changing.{some-same, none-some}
-use Rattle.factory.specs.Extending.{childPlace, children, maxBelow, grows, extended, hangsFrom, hasChild, founds, newChildren, foundedBy, founded}
+use Rattle.ledger.proofs.Offspring.{no-child}
+use Rattle.factory.specs.Extending.{childPlace, children, maxBelow, grows, extended, founds, newChildren, foundedBy, founded}
 use Rattle.factory.proofs.Laying.{ext-lawful, ext-untouched}
-
-hangs-not : (seat : ℕ) (o : Option Parent) (i : ℕ) → hangsFrom seat o ≡ false → o ≡ child seat i → ⊥
-hangs-not seat None i h e = none-some e
-hangs-not seat (Some q) i h e = both-ways (eqb (q .place) seat) h (eq-eqb (q .place) seat (ap (λ (y : Parent). y .place) (some-same e)))
-
-no-child : (seat : ℕ) (ps : List Place) → hasChild seat ps ≡ false → (p i : ℕ) → getD ps p nowhere .parent ≡ child seat i → ⊥
-no-child seat [] h p i e = none-some e
-no-child seat (r ∷ ps) h zero i e = hangs-not seat (r .parent) i (or-parts (hangsFrom seat (r .parent)) (hasChild seat ps) h .0) e
-no-child seat (r ∷ ps) h (suc p) i e = no-child seat ps (or-parts (hangsFrom seat (r .parent)) (hasChild seat ps) h .1) p i e
 
 -- new rows are new children, and hold no state
 new-children : (seat i : ℕ) (rows : List Row) (ds : List ℕ) → map figures rows ≡ map (newFigures true) ds → children seat i rows ≡ newChildren seat i ds
@@ -50,7 +37,7 @@ new-fresh good (r ∷ rows) (x ∷ ds) h d (suc i) l = new-fresh good rows ds (c
 -- what an accepted set-up says
 record Founds (m : Model) (seat : ℕ) (ds : List ℕ) : Type 0 where
   seated : seat < length (m .places)
-  leaf : hasChild seat (m .places) ≡ false
+  leaf : hasChildren seat (m .places) ≡ false
   room : length (m .places) ≤ maxBelow
   live : grows true m seat ≡ true
 
@@ -91,23 +78,6 @@ made-by false live m seat rows ds e i l h =
 pub made : (live : Bool) (m : Model) (seat : ℕ) (rows : List Row) (ds : List ℕ) → live ≡ founds m seat ds → length rows ≡ 8 → map figures rows ≡ map (newFigures live) ds → Made live m seat rows ds
 made live m seat rows ds e l h = made-by (founds m seat ds) live m seat rows ds refl e l h
 
--- a place that is not there has no parent and holds no state
-pub past-hangs : (m : Model) (seat p : ℕ) → length (m .places) ≤ p → false ≡ hangsFrom seat (placeAt m p .parent)
-past-hangs m seat p l = sym (ap (λ (x : Place). hangsFrom seat (x .parent)) (getD-past (m .places) p nowhere l))
-
+-- a place that is not there shows no state
 pub past-shows : (m : Model) (p : ℕ) → length (m .places) ≤ p → false ≡ showsState (status m p)
 past-shows m p l = sym (ap (λ (x : Place). showsState (statusBy (valueBy (m .places) (x .parent) (x .funding)) (x .stage))) (getD-past (m .places) p nowhere l))
-
--- the loop over the places
-module _ (seat : ℕ) (ps : List Place) (i : ℕ) (so-far : hasChild seat (drop i ps) ≡ hasChild seat ps) where
-  more : i < length ps → (b : Bool) → b ≡ hangsFrom seat (getD ps i nowhere .parent) → b || hasChild seat (drop (i + 1) ps) ≡ hasChild seat ps
-  more l b e = ap (λ y. y || hasChild seat (drop (i + 1) ps)) e ∙ sym (at-drop-more (hasChild seat) ps i nowhere l) ∙ so-far
-
-  pub child-found : i < length ps → true ≡ hangsFrom seat (getD ps i nowhere .parent) → true ≡ hasChild seat ps
-  child-found l e = more l true e
-
-  pub child-not-yet : i < length ps → false ≡ hangsFrom seat (getD ps i nowhere .parent) → hasChild seat (drop (i + 1) ps) ≡ hasChild seat ps
-  child-not-yet l e = more l false e
-
-  pub child-nowhere : length ps ≤ i → false ≡ hasChild seat ps
-  child-nowhere l = sym (at-drop-all (hasChild seat) ps i l) ∙ so-far

@@ -1,13 +1,10 @@
 use Prim.Native.Nat.{ℕ, suc}
-use mathlib.Core.Bool.{Bool, true, false, not, _&&_, _||_}
+use mathlib.Core.Bool.{Bool, true, false, not, _&&_}
 use mathlib.Core.List.{List, [], _∷_, _++_}
-use lib.Dec.{eqb, leb, ltb}
+use lib.Dec.{leb, ltb}
 use lib.ListN.{length}
-use Rattle.std.specs.declared.option.Option.{Option}
-use Rattle.std.specs.declared.option.Option.the-variants.{Some, None}
 use Rattle.ledger.specs.declared.row.Row.{Row}
-use Rattle.ledger.specs.declared.view.Parent.{Parent}
-use Rattle.ledger.specs.Laws.{child}
+use Rattle.ledger.specs.Laws.{child, hasChildren}
 use Rattle.ledger.specs.Model.{Model, Place, fresh, status, showsState}
 use Rattle.ledger.specs.Rows.{stageOf}
 use Rattle.ledger.specs.SetUps.{goodDelays, delayMade}
@@ -38,26 +35,18 @@ extended false m seat rows = m
 
 -- The set-up.
 
-abbrev pub hangsFrom : ℕ → Option Parent → Bool
-hangsFrom seat None = false
-hangsFrom seat (Some q) = eqb (q .place) seat
-
-abbrev pub hasChild : ℕ → List Place → Bool
-hasChild seat [] = false
-hasChild seat (r ∷ rest) = hangsFrom seat (r .parent) || hasChild seat rest
-
 -- the checks of a factory over a seat: a place below, without children, neither posted nor settled; good delays; room
 abbrev pub foundingChecks : Model → ℕ → List ℕ → List (Bool × ℕ)
 foundingChecks m seat delays =
     (not (ltb seat (length (m .places))), 20)
-    ∷ (hasChild seat (m .places), 20)
+    ∷ (hasChildren seat (m .places), 20)
     ∷ (showsState (status m seat), 20)
     ∷ (not (goodDelays delays), 20)
     ∷ (ltb maxBelow (length (m .places)), 20)
     ∷ []
 
 abbrev pub founds : Model → ℕ → List ℕ → Bool
-founds m seat delays = ltb seat (length (m .places)) && (not (hasChild seat (m .places)) && (not (showsState (status m seat)) && (goodDelays delays && leb (length (m .places)) maxBelow)))
+founds m seat delays = ltb seat (length (m .places)) && (not (hasChildren seat (m .places)) && (not (showsState (status m seat)) && (goodDelays delays && leb (length (m .places)) maxBelow)))
 
 -- new children
 abbrev pub newChildren : ℕ → ℕ → List ℕ → List Place

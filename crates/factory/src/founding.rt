@@ -1,42 +1,18 @@
 ghost use mathlib.Core.Path.{_≡_};
-ghost use Rattle.factory.specs.Extending.{hangsFrom, hasChild, foundingChecks, founds, founded};
+ghost use Rattle.factory.specs.Extending.{foundingChecks, founds, founded};
 ghost use Rattle.factory.specs.Factories.{modelOf};
 ghost use Rattle.ledger.specs.Laws.{Lawful, Untouched};
-ghost use Rattle.ledger.specs.Model.{placeAt, status, showsState};
+ghost use Rattle.ledger.specs.Model.{status, showsState};
 ghost use Rattle.state.specs.Refusals.{answer, first};
 use crate::child::MAX_BELOW;
 use crate::factory::Factory;
+use ledger::children::has_children;
 use ledger::host::Host;
 use ledger::host::Ledger;
 use ledger::setting::good_delays;
 use ledger::setting::rows_made;
 use ledger::view::Standing;
 use state::refusal::Refusal;
-
-// Whether a place has the seat for its parent.
-fn hangs_from<B: Host>(below: &B, place: usize, seat: usize) -> bool
-    ensures { λ r. ⌜ r ≡ hangsFrom seat (placeAt (B·Ledger .model (now (below .entry))) place .parent) ⌝ }
-{
-    match below.view(place) {
-        Ok(view) => match view.parent {
-            Some(parent) => parent.place == seat,
-            None => false,
-        },
-        Err(_) => false,
-    }
-}
-
-// Whether some place has the seat for its parent.
-fn has_child<B: Host>(below: &B, seat: usize) -> bool
-    ensures { λ r. ⌜ r ≡ hasChild seat (B·Ledger .model (now (below .entry)) .places) ⌝ }
-{
-    for place in 0..below.count() {
-        if hangs_from(below, place, seat) {
-            return true;
-        }
-    }
-    false
-}
 
 // Whether a place is posted or settled.
 fn shows_state<B: Host>(below: &B, seat: usize) -> bool
@@ -59,7 +35,7 @@ fn is_founded<B: Host>(below: &B, seat: usize, delays: &[u64; 8]) -> bool
 {
     let count = below.count();
     seat < count
-        && !has_child(below, seat)
+        && !has_children(below, seat)
         && !shows_state(below, seat)
         && good_delays(delays)
         && count <= MAX_BELOW
@@ -89,7 +65,7 @@ impl<B: Host> Factory<B> {
     {
         let count = below.count();
         if seat >= count
-            || has_child(below, seat)
+            || has_children(below, seat)
             || shows_state(below, seat)
             || !good_delays(delays)
             || count > MAX_BELOW

@@ -1,7 +1,8 @@
 use Prim.Native.Nat.{ℕ, _<_, _≤_}
 use mathlib.Core.Path.{_≡_}
-use mathlib.Core.Bool.{Bool, true, false, not}
-use mathlib.Core.List.{List}
+use mathlib.Core.Bool.{Bool, true, false, not, _||_}
+use mathlib.Core.List.{List, [], _∷_}
+use lib.Dec.{eqb}
 use lib.ListN.{length, getD}
 use Rattle.std.specs.shelf.Lists.{sum}
 use Rattle.std.specs.declared.option.Option.{Option}
@@ -10,7 +11,7 @@ use Rattle.state.specs.declared.state.State.{State}
 use Rattle.state.specs.Limits.{maxHeight, minDelay, maxDelay, minNumber, maxNumber, maxTotal, parties}
 use Rattle.state.specs.Refusals.{accepted, first}
 use Rattle.ledger.specs.declared.view.Parent.{Parent}
-use Rattle.ledger.specs.Model.{Model, Stage, fresh, holds, done, placeAt, valueOf, Status, shut, idle, posted, settled, status, isShut, isSettled, showsState, shownNumber, shownAmounts}
+use Rattle.ledger.specs.Model.{Model, Place, Stage, fresh, holds, done, placeAt, valueOf, Status, shut, idle, posted, settled, status, isShut, isSettled, showsState, shownNumber, shownAmounts}
 use Rattle.ledger.specs.Steps.{isNone, postChecks, postNext, settleChecks, settleNext, advanceChecks, advanceNext}
 
 -- the most places of a ledger, and the children of a factory place
@@ -19,6 +20,16 @@ maxPlaces = 64
 
 abbrev pub child : ℕ → ℕ → Option Parent
 child q i = Some (record { place = q; index = i })
+
+-- whether a place with this parent is a child of q
+abbrev pub childOf : ℕ → Option Parent → Bool
+childOf q None = false
+childOf q (Some u) = eqb (u .place) q
+
+-- a place with children is a factory place, and every other a channel place
+abbrev pub hasChildren : ℕ → List Place → Bool
+hasChildren q [] = false
+hasChildren q (r ∷ rest) = childOf q (r .parent) || hasChildren q rest
 
 -- a root has a funding within the limit, and a child a parent with a lower number, an index and no funding
 abbrev pub Tied : Option Parent → ℕ → ℕ → Type 0

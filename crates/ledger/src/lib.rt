@@ -1,4 +1,5 @@
 // Ledgers and hosts: what they mean, the three calls and the laws, and what implementations share.
+pub mod children;
 pub mod host;
 pub mod phase;
 pub mod row;

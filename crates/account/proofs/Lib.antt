@@ -1,0 +1,3 @@
+mod Conserving
+mod Parting
+mod Summing
