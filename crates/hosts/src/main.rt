@@ -12,6 +12,9 @@ use ledger::host::Ledger;
 use ledger::setup::SetUp;
 use ledger::view::Standing;
 use ledger::view::View;
+use output_chain::chain::OutputChain;
+use output_chain::host::ChainHost;
+use output_chain::look::ChainLedger;
 use state::raw::RawState;
 use state::refusal::Refusal;
 use state::state::State;
@@ -144,14 +147,8 @@ fn play<H: Host>(rt: &LibcRuntime, host: &mut H) -> Result<(), AnyError> {
     print_account(rt, host)
 }
 
-fn run(rt: &LibcRuntime) -> Result<(), AnyError> {
-    let setup = SetUp {
-        fundings: [1000, 500, 0, 0, 0, 0, 0, 0],
-        delays: [10, 0, 2, 2, 2, 2, 2, 2],
-    };
-    print!(rt, "adjudicator: ")?;
-    print_answer(rt, setup.check())?;
-    let host = Adjudicator::new(&setup);
+// Puts a factory on place 0 of a host, plays on it, and takes a copy.
+fn story<H: Host + Drop>(rt: &LibcRuntime, host: H) -> Result<(), AnyError> {
     print!(rt, "factory over 0: ")?;
     print_answer(rt, Factory::check(&host, 0, &[3; 8]))?;
     let mut host = Factory::over(host, 0, &[3; 8]);
@@ -164,6 +161,33 @@ fn run(rt: &LibcRuntime) -> Result<(), AnyError> {
     look(rt, &copy, 8)?;
     print!(rt, "in the copy ")?;
     print_account(rt, &copy)
+}
+
+fn run(rt: &LibcRuntime) -> Result<(), AnyError> {
+    let setup = SetUp {
+        fundings: [1000, 500, 0, 0, 0, 0, 0, 0],
+        delays: [10, 0, 2, 2, 2, 2, 2, 2],
+    };
+    print!(rt, "adjudicator: ")?;
+    print_answer(rt, setup.check())?;
+    story(rt, Adjudicator::new(&setup))?;
+    print!(rt, "chain: ")?;
+    print_answer(rt, setup.check())?;
+    let mut chain = OutputChain::new(&setup);
+    let outputs = chain.outputs();
+    println!(rt, "outputs {outputs}")?;
+    settle_root(rt, &mut chain)?;
+    let outputs = chain.outputs();
+    println!(rt, "outputs {outputs}")?;
+    story(rt, OutputChain::new(&setup))
+}
+
+// Settles root 1, whose one output becomes eight.
+fn settle_root<H: Host>(rt: &LibcRuntime, host: &mut H) -> Result<(), AnyError> {
+    post(rt, host, 1, 1, 499, 1)?;
+    advance(rt, host, 144)?;
+    settle(rt, host, 1)?;
+    print_account(rt, host)
 }
 
 fn main(rt: LibcRuntime) -> Result<(), AnyError> {

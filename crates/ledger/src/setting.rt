@@ -65,7 +65,7 @@ fn good_fundings(given: &[u64; 8]) -> bool
 }
 
 // The delay of a place that is made; against a bad set-up it is the longest.
-fn delay_made(good: bool, given: u64) -> Delay
+pub fn delay_made(good: bool, given: u64) -> Delay
     ensures { λ r. ⌜ r .blocks ≡ delayMade good given ⌝ }
 {
     if !good || !good_delay(given) {

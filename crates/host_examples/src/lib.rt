@@ -1,0 +1,5 @@
+// Examples of what hosts, factories, copies and the account promise, run as tests.
+#[cfg(test)]
+mod calls;
+#[cfg(test)]
+mod piles;

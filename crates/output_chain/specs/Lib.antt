@@ -1,0 +1,4 @@
+pub mod Chains
+pub mod Coins
+pub mod Models
+pub mod Pools
