@@ -2,10 +2,10 @@ ghost use Rattle.adjudicator.specs.Tables.{modelOf};
 use crate::table::Adjudicator;
 use ledger::host::Host;
 use ledger::host::Ledger;
+use ledger::host::MAX_STEP;
 use ledger::phase::Call;
 use ledger::view::View;
 use state::quantity::Height;
-use state::quantity::MAX_DELAY;
 use state::quantity::MAX_HEIGHT;
 use state::refusal::Refusal;
 use state::state::State;
@@ -53,7 +53,7 @@ pub impl Host for Adjudicator as AdjudicatorHost {
     }
 
     fn advance(&mut self, blocks: u64) -> Result<(), Refusal> {
-        if blocks == 0 || blocks > MAX_DELAY as u64 {
+        if blocks == 0 || blocks > MAX_STEP {
             return Err(Refusal::BadStep);
         }
         let next = self.height.blocks + blocks as u32;

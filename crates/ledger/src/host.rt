@@ -8,6 +8,9 @@ use state::quantity::Height;
 use state::refusal::Refusal;
 use state::state::State;
 
+// The most blocks of one advance.
+pub const MAX_STEP: u64 = 2_016;
+
 // Whatever can be looked at.
 pub trait Ledger {
     // its height, and its places in order

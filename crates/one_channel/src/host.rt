@@ -10,6 +10,7 @@ ghost use lib.Dec.{ltb};
 use crate::channel::OneChannel;
 use ledger::host::Host;
 use ledger::host::Ledger;
+use ledger::host::MAX_STEP;
 use ledger::phase::Call;
 use ledger::phase::Phase;
 use ledger::row::Row;
@@ -17,7 +18,6 @@ use ledger::view::View;
 use state::making::MAX_TOTAL;
 use state::quantity::Delay;
 use state::quantity::Height;
-use state::quantity::MAX_DELAY;
 use state::quantity::MAX_HEIGHT;
 use state::refusal::Refusal;
 use state::state::State;
@@ -68,7 +68,7 @@ pub impl Host for OneChannel as OneChannelHost {
     }
 
     fn advance(&mut self, blocks: u64) -> Result<(), Refusal> {
-        if blocks == 0 || blocks > MAX_DELAY as u64 {
+        if blocks == 0 || blocks > MAX_STEP {
             return Err(Refusal::BadStep);
         }
         let next = self.height.blocks + blocks as u32;

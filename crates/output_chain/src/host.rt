@@ -8,15 +8,13 @@ use crate::look::ChainLedger;
 use crate::setting::delays_made;
 use ledger::host::Host;
 use ledger::host::Ledger;
+use ledger::host::MAX_STEP;
 use ledger::setting::fundings_made;
 use ledger::setup::SetUp;
 use state::quantity::Height;
 use state::quantity::MAX_HEIGHT;
 use state::refusal::Refusal;
 use state::state::State;
-
-// The most blocks of one advance.
-const MAX_STEP: u64 = 2_016;
 
 impl OutputChain {
     // Eight open roots at height 0. Against a bad set-up they have no funding and the longest delay.
