@@ -7,6 +7,9 @@ use ledger::host::Ledger;
 use ledger::setup::SetUp;
 use ledger::view::Standing;
 use ledger::view::View;
+use output_chain::chain::OutputChain;
+use output_chain::host::ChainHost;
+use output_chain::look::ChainLedger;
 use state::raw::RawState;
 use state::refusal::Refusal;
 use state::state::State;
@@ -77,6 +80,27 @@ fn waits<H: Host>(host: &mut H) -> [u8; 5] {
 fn a_post_waits_for_its_delay() -> Result<(), Fail> {
     let mut host = Adjudicator::new(&setup(10));
     check_eq(waits(&mut host), [0, 0, 13, 0, 5])
+}
+
+#[test]
+fn the_chain_waits_too() -> Result<(), Fail> {
+    let mut chain = OutputChain::new(&setup(10));
+    check_eq(chain.outputs(), 8)?;
+    check_eq(waits(&mut chain), [0, 0, 13, 0, 5])?;
+    check_eq(chain.outputs(), 15)?;
+    let mut chain = OutputChain::new(&setup(2));
+    check_eq(last_block(&mut chain), [16, 0, 16, 0, 13])
+}
+
+// Eight roots make 64 payouts, which fill the pool.
+#[test]
+fn a_full_pool() -> Result<(), Fail> {
+    let mut chain = OutputChain::new(&setup(2));
+    check(settle_all(&mut chain))?;
+    check_eq(chain.outputs(), 64)?;
+    let account = account_of(&chain);
+    check_eq(account.paid, [5600, 2400, 0, 0, 0, 0, 0, 0])?;
+    check_eq(account.standing, 0)
 }
 
 #[test]
