@@ -21,11 +21,12 @@ use state::state::State;
 pub(crate) const MAX_BELOW: usize = 56;
 
 impl<B: Host> Factory<B> {
-    // Whether the children are there.
-    pub(crate) fn grown(&self) -> bool
+    // Whether the children are there; the count is of the places below, and asked
+    // for once, so that a pile's count costs one call for each host in it.
+    pub(crate) fn grown(&self, count: usize) -> bool
+        requires { ⌜ count ≡ length (B·Ledger .model (now self .below) .places) ⌝ }
         ensures { λ r. ⌜ r ≡ grows (now (self .entry) .live) (B·Ledger .model (now (self .entry) .below)) (now (self .entry) .seat) ⌝ }
     {
-        let count = self.below.count();
         self.live && count <= MAX_BELOW && self.seat < count
     }
 
@@ -35,7 +36,7 @@ impl<B: Host> Factory<B> {
         ensures count { λ r. ⌜ r ≡ length (modelOf (B·Ledger .model) (now (self .entry)) .places) ⌝ }
     {
         let count = self.below.count();
-        if self.grown() { count + 8 } else { count }
+        if self.grown(count) { count + 8 } else { count }
     }
 
     // The value of the child at an index, none while it is shut.

@@ -3,3 +3,5 @@
 mod calls;
 #[cfg(test)]
 mod piles;
+#[cfg(test)]
+mod seven;

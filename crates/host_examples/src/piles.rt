@@ -17,7 +17,7 @@ use std::test::*;
 
 const DELAYS: [u64; 8] = [2; 8];
 
-fn base() -> Adjudicator {
+pub(crate) fn base() -> Adjudicator {
     Adjudicator::new(
         &SetUp {
             fundings: [1000; 8],
@@ -27,27 +27,27 @@ fn base() -> Adjudicator {
 }
 
 // A factory over a place.
-fn over<B: Host>(below: B, seat: usize) -> Factory<B> {
+pub(crate) fn over<B: Host>(below: B, seat: usize) -> Factory<B> {
     Factory::over(below, seat, &DELAYS)
 }
 
 // The answer to a factory over a place.
-fn checked<B: Host>(below: &B, seat: usize) -> u8 {
+pub(crate) fn checked<B: Host>(below: &B, seat: usize) -> u8 {
     told(Factory::check(below, seat, &DELAYS))
 }
 
-fn places<L: Ledger>(ledger: &L) -> usize {
+pub(crate) fn places<L: Ledger>(ledger: &L) -> usize {
     ledger.count()
 }
 
 // The sums of parties 0 and 1, and what stands.
-fn sums<L: Ledger>(ledger: &L) -> (u128, u128, u128) {
+pub(crate) fn sums<L: Ledger>(ledger: &L) -> (u128, u128, u128) {
     let account = account_of(ledger);
     (account.paid[0], account.paid[1], account.standing)
 }
 
 // Settles a place in a state that gives all to index 0.
-fn close<H: Host>(host: &mut H, place: usize) -> bool {
+pub(crate) fn close<H: Host>(host: &mut H, place: usize) -> bool {
     let posted = told(host.post(&state(place as u64, 1, 1000, 0))) == 0;
     let _ = host.advance(2);
     posted && told(host.settle(place)) == 0
