@@ -13,7 +13,7 @@ use Rattle.state.specs.Refusals.{accepted, refused, first}
 use Rattle.state.proofs.Checking.{passed-over}
 use Rattle.ledger.specs.Model.{Model, Stage, fresh, holds, placeAt, valueOf}
 use Rattle.ledger.specs.SetUps.{delayMade}
-use Rattle.ledger.specs.Steps.{isNone, worth, dueAt, postStageChecks, settleStageChecks, placeChecks, postChecks, settleChecks, advanceChecks}
+use Rattle.ledger.specs.Steps.{isNone, worth, postStageChecks, settleStageChecks, placeChecks, postChecks, settleChecks, advanceChecks}
 use Rattle.cases.specs.Cases.{Valued}
 
 -- at a place that is there and not shut, the checks of what it holds decide
@@ -39,8 +39,19 @@ in-time m p n a v e d h = settle-at m p 10 15 (holds n 5 a) v e d h
 pub nothing-posted : (m : Model) (p : ℕ) → Valued m p → placeAt m p .stage ≡ fresh → first (settleChecks m p) ≡ refused 14
 nothing-posted m p v e = settle-at m p (placeAt m p .delay) (m .height) fresh v e refl refl
 
-pub default-due : (good : Bool) (number since : ℕ) → good ≡ true → dueAt number since (delayMade good 0) ≡ since + 144
-default-due good number since e = ap (λ b. since + delayMade b 0) e
+-- whether it is early decides the settlement of a posted place
+settle-posted : (m : Model) (p n since delay : ℕ) (a : List ℕ) (b : Bool) → Valued m p → placeAt m p .stage ≡ holds n since a → placeAt m p .delay ≡ delay → ltb (m .height) (since + delay) ≡ b → first (settleChecks m p) ≡ first ((b, 13) ∷ [])
+settle-posted m p n since delay a b v e d h = settle-at m p delay (m .height) (holds n since a) v e d refl ∙ ap (λ x. first ((x, 13) ∷ [])) h
+
+pub default-early : (m : Model) (p n since : ℕ) (a : List ℕ) → Valued m p → placeAt m p .stage ≡ holds n since a → placeAt m p .delay ≡ delayMade true 0 → m .height < since + 144 → first (settleChecks m p) ≡ refused 13
+default-early m p n since a v e d h =
+    let before : ltb (m .height) (since + 144) ≡ true = grind (arith, tells) in
+    settle-posted m p n since 144 a true v e d before
+
+pub default-due : (m : Model) (p n since : ℕ) (a : List ℕ) → Valued m p → placeAt m p .stage ≡ holds n since a → placeAt m p .delay ≡ delayMade true 0 → since + 144 ≤ m .height → first (settleChecks m p) ≡ accepted
+default-due m p n since a v e d h =
+    let after : ltb (m .height) (since + 144) ≡ false = grind (arith, tells) in
+    settle-posted m p n since 144 a false v e d after
 
 pub longest-step : (m : Model) → m .height ≡ 0 → first (advanceChecks m 2016) ≡ accepted
 longest-step m h = ap (λ x. first ((eqb 2016 0, 15) ∷ (ltb 2016 2016, 15) ∷ (ltb 10000000 (x + 2016), 16) ∷ [])) h

@@ -1,6 +1,6 @@
 use Prim.Native.Nat.{ℕ, _+_, _<_, _≤_}
 use mathlib.Core.Path.{_≡_}
-use mathlib.Core.Bool.{Bool, true, false}
+use mathlib.Core.Bool.{true, false}
 use mathlib.Core.List.{List}
 use lib.ListN.{length}
 use Rattle.cases.specs.declared.Case.{Case}
@@ -10,7 +10,7 @@ use Rattle.state.specs.declared.raw.RawState.{RawState}
 use Rattle.state.specs.declared.state.State.{State}
 use Rattle.ledger.specs.Model.{Model, fresh, holds, placeAt, valueOf}
 use Rattle.ledger.specs.SetUps.{delayMade}
-use Rattle.ledger.specs.Steps.{isNone, worth, dueAt, postChecks, settleChecks, advanceChecks}
+use Rattle.ledger.specs.Steps.{isNone, worth, postChecks, settleChecks, advanceChecks}
 use Rattle.state.specs.Limits.{maxPlace, minNumber, maxNumber, maxTotal}
 use Rattle.state.specs.Refusals.{accepted, refused, first}
 use Rattle.state.specs.States.{makingChecks}
@@ -37,8 +37,9 @@ pub record EdgeCases : Type 0 where
   -- posted since 5 with delay 10, a settlement is too early at 14 and accepted at 15
   pub too-early : (m : Model) (p n : ℕ) (a : List ℕ) → Valued m p → placeAt m p .stage ≡ holds n 5 a → placeAt m p .delay ≡ 10 → m .height ≡ 14 → first (settleChecks m p) ≡ refused 13
   pub in-time : (m : Model) (p n : ℕ) (a : List ℕ) → Valued m p → placeAt m p .stage ≡ holds n 5 a → placeAt m p .delay ≡ 10 → m .height ≡ 15 → first (settleChecks m p) ≡ accepted
-  -- a delay of 0 in a set-up: a post is due 144 blocks later, and not before
-  pub default-due : (good : Bool) (number since : ℕ) → good ≡ true → dueAt number since (delayMade good 0) ≡ since + 144
+  -- with the delay that a good set-up makes of 0, a post is due 144 blocks later, and not before
+  pub default-early : (m : Model) (p n since : ℕ) (a : List ℕ) → Valued m p → placeAt m p .stage ≡ holds n since a → placeAt m p .delay ≡ delayMade true 0 → m .height < since + 144 → first (settleChecks m p) ≡ refused 13
+  pub default-due : (m : Model) (p n since : ℕ) (a : List ℕ) → Valued m p → placeAt m p .stage ≡ holds n since a → placeAt m p .delay ≡ delayMade true 0 → since + 144 ≤ m .height → first (settleChecks m p) ≡ accepted
   -- one advance goes from height 0 to 2,016, and not by 2,017 or 0
   pub longest-step : (m : Model) → m .height ≡ 0 → first (advanceChecks m 2016) ≡ accepted
   pub step-too-long : (m : Model) → first (advanceChecks m 2017) ≡ refused 15

@@ -1,7 +1,7 @@
 use native.Mathlib.Omega.{arith}
 use mathlib.Core.Path.{refl}
 use Rattle.std.proofs.shelf.Ways.{tells}
-use Rattle.cases.proofs.Placed.{too-early, in-time, default-due, longest-step, posted-again, nothing-posted}
+use Rattle.cases.proofs.Placed.{too-early, in-time, default-early, default-due, longest-step, posted-again, nothing-posted}
 use Rattle.cases.proofs.laws.Needs as need
 
 pub returns : need.returns
@@ -14,6 +14,7 @@ returns c =
       total-too-high = λ raw p n t. let low = n .low in let high = n .high in grind (arith, tells);
       too-early = too-early;
       in-time = in-time;
+      default-early = default-early;
       default-due = default-due;
       longest-step = longest-step;
       step-too-long = λ m. refl;
