@@ -1,4 +1,6 @@
 // A batch of texts in one input: each text is ended by an empty line or by the end of the input.
+#![tactic(auto)]
+
 ghost use Rattle.std.specs.Prelude.{ℕ, ◌<◌, ◌≤◌, length, true, false, ◌≡◌};
 ghost use Rattle.batch.specs.Batch.{empty_line};
 

@@ -1,4 +1,6 @@
 // The edge cases of the rules: proved of the definitions, and performed by the calls.
+#![tactic(auto)]
+
 ghost use Rattle.std.specs.Prelude.{◌≡◌, ℕ, [], ◌∷◌};
 ghost use Rattle.cases.specs.Cases.{EdgeCases, expected};
 ghost use Rattle.state.specs.Refusals.{first};

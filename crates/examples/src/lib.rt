@@ -1,4 +1,6 @@
 // Examples of what the crates promise, run as tests.
+#![tactic(auto)]
+
 #[cfg(test)]
 mod seals;
 #[cfg(test)]

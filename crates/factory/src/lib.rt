@@ -1,4 +1,6 @@
 // Factories: a host over any host, which adds eight children of one of its places.
+#![tactic(auto)]
+
 mod child;
 pub mod factory;
 pub mod founding;

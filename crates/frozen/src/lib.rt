@@ -1,4 +1,6 @@
 // A frozen copy of any ledger, which can be looked at and not acted on.
+#![tactic(auto)]
+
 pub mod copy;
 mod holding;
 pub mod snapshot;

@@ -1,4 +1,6 @@
 // Examples of what hosts, factories, copies and the account promise, run as tests.
+#![tactic(auto)]
+
 #[cfg(test)]
 mod calls;
 #[cfg(test)]

@@ -1,3 +1,5 @@
+#![tactic(auto)]
+
 use account::account::account_of;
 use adjudicator::table::Adjudicator;
 use factory::factory::Factory;

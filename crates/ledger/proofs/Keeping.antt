@@ -1,5 +1,5 @@
 -- What a ledger keeps to, no step breaks; and the two laws.
-use Rattle.std.proofs.Common.{◌≡◌, ℕ, ◌+◌, ◌<◌, ◌≤◌, Bool, true, false, not, eqb, ltb, ◌⊎◌, List, [], ◌∷◌, length, get_or, Some, None, sum, Option, sym, refl, ap, ◌∙◌, subst, inl, inr, arith}
+use Rattle.std.proofs.Common.{◌≡◌, ℕ, ◌+◌, ◌<◌, ◌≤◌, true, false, not, eqb, ltb, ◌⊎◌, List, length, get_or, Some, None, sum, Option, sym, refl, ap, ◌∙◌, subst, inl, inr, arith}
 use Rattle.std.proofs.lemmas.Bool.{cases_eq}
 use Rattle.std.proofs.lemmas.Bool.Decides.{nat_tests}
 use Rattle.state.specs.declared.state.State.{State}
@@ -7,10 +7,10 @@ use Rattle.state.specs.Limits.{max_height, min_delay, max_delay}
 use Rattle.state.specs.Refusals.{accepted, first}
 use Rattle.state.proofs.Checking.{Passed, all_passed}
 use Rattle.ledger.specs.declared.view.Parent.{Parent}
-use Rattle.ledger.specs.Laws.{Tied, Laid, Backed, Lawful, TwoLaws, LawsHold, StepsKeep, child}
-use Rattle.ledger.specs.Model.{Model, Place, Stage, fresh, holds, done, place_at, value_of, value_by, share, Status, settled, status_by, is_shut, is_settled, shows_state, shown_amounts}
-use Rattle.ledger.specs.Steps.{is_none, worth, is_done, post_stage_checks, settle_stage_checks, posted_stage, settled_stage, staged, with_stage, post_checks, post_next, settle_checks, settle_next, advance_checks, advance_next}
-use Rattle.ledger.proofs.Changing.{some_same, none_some, Reached, reached, at_same, at_other, count_is, layout, parent_is, value_is, child_none}
+use Rattle.ledger.specs.Laws.{Tied, Laid, Backed, Lawful, LawsHold, StepsKeep}
+use Rattle.ledger.specs.Model.{Model, Place, Stage, fresh, holds, done, place_at, value_of, value_by, share, settled, status_by, is_shut, is_settled, shows_state, shown_amounts}
+use Rattle.ledger.specs.Steps.{is_none, worth, is_done, post_stage_checks, settle_stage_checks, posted_stage, settled_stage, with_stage, post_checks, post_next, settle_checks, settle_next, advance_checks, advance_next}
+use Rattle.ledger.proofs.Changing.{some_same, none_some, reached, at_same, at_other, count_is, layout, parent_is, value_is, child_none}
 
 -- a place without a value holds no state
 any_value : (v : Option ℕ) (s : Stage) (h : ℕ) → Backed None s h → Backed v s h

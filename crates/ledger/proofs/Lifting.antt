@@ -1,12 +1,12 @@
 -- From the step of one place to the step of the model.
-use Rattle.std.proofs.Common.{◌≡◌, ℕ, ◌<◌, ◌≤◌, Bool, true, false, not, ltb, List, [], ◌∷◌, length, set, Some, None, Ok, Err, Result, sym, refl, ap, ◌∙◌, subst, arith}
+use Rattle.std.proofs.Common.{◌≡◌, ℕ, ◌<◌, ◌≤◌, Bool, true, false, not, ltb, List, ◌∷◌, length, Some, None, Ok, Err, Result, sym, refl, ap, ◌∙◌, arith}
 use Rattle.std.proofs.lemmas.List.{set-get_or}
 use Rattle.std.proofs.lemmas.Bool.Decides.{nat_tests}
 use Rattle.state.specs.declared.refusal.Refusal.{Refusal}
-use Rattle.state.specs.Refusals.{told, answer, refused, first, Leaves}
+use Rattle.state.specs.Refusals.{told, refused, first, Leaves}
 use Rattle.state.proofs.Checking.{passed_over}
 use Rattle.ledger.specs.Model.{Model, Place, Stage, place_at, value_of}
-use Rattle.ledger.specs.Steps.{is_none, staged, with_stage, place_checks, Does}
+use Rattle.ledger.specs.Steps.{is_none, with_stage, place_checks, Does}
 
 -- a place at the stage that it has
 same_stage : (m : Model) (p : ℕ) (s : Stage) → s ≡ (place_at m p).stage → with_stage m p s ≡ m

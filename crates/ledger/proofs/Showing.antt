@@ -1,15 +1,15 @@
 -- What the steps do to what each place shows: a post changes one place, a settlement one place and its children.
-use Rattle.std.proofs.Common.{◌≡◌, ℕ, ◌+◌, ◌<◌, ◌≤◌, Bool, true, false, ◌⊎◌, List, length, Some, None, Option, sym, refl, ap, ◌∙◌, subst, inl, inr, arith}
+use Rattle.std.proofs.Common.{◌≡◌, ℕ, ◌<◌, Bool, true, false, ◌⊎◌, List, length, Some, None, Option, sym, refl, ap, ◌∙◌, subst, inl, inr, arith}
 use Rattle.std.proofs.lemmas.Bool.{cases_eq}
 use Rattle.state.specs.declared.state.State.{State}
 use Rattle.state.specs.Refusals.{accepted, first}
 use Rattle.state.proofs.Checking.{Passed}
 use Rattle.ledger.specs.declared.view.Parent.{Parent}
 use Rattle.ledger.specs.Laws.{Tied, Backed, Lawful, PostShows, SettleShows, StepsShow, LedgerLaws, child}
-use Rattle.ledger.specs.Model.{Model, Place, Stage, fresh, holds, done, place_at, value_of, value_by, share, Status, shut, idle, posted, settled, status, status_by, is_settled, shown_number, shown_amounts}
-use Rattle.ledger.specs.Steps.{worth, is_done, is_fresh, post_stage_checks, settle_stage_checks, posted_stage, settled_stage, staged, with_stage, post_checks, post_next, settle_checks, settle_next}
-use Rattle.ledger.proofs.Changing.{some_same, none_some, Reached, reached, none_yet, at_same, at_other, layout, value_is, child_none}
-use Rattle.ledger.proofs.Keeping.{not_done, PostPassed, post_passed, settle_passed, steps_keep, laws_hold}
+use Rattle.ledger.specs.Model.{Model, Place, Stage, fresh, holds, done, place_at, value_of, value_by, share, idle, settled, status, status_by, shown_number, shown_amounts}
+use Rattle.ledger.specs.Steps.{worth, is_done, post_stage_checks, settle_stage_checks, posted_stage, settled_stage, with_stage, post_checks, post_next, settle_checks, settle_next}
+use Rattle.ledger.proofs.Changing.{some_same, none_some, reached, none_yet, at_same, at_other, layout, value_is, child_none}
+use Rattle.ledger.proofs.Keeping.{not_done, post_passed, settle_passed, steps_keep, laws_hold}
 
 module _ (m : Model) (p : ℕ) (s : Stage) (within : p < length m.places) where
   abbrev next : Model

@@ -1,12 +1,11 @@
 -- What a base host starts from is lawful, and nothing is posted or settled.
-use Rattle.std.proofs.Common.{◌≡◌, ℕ, zero, suc, ◌<◌, ◌≤◌, Bool, true, false, cond, ◌&&◌, eqb, leb, List, [], ◌∷◌, map, length, get_or, Some, None, Option, sym, refl, ap, ◌∙◌, arith}
+use Rattle.std.proofs.Common.{◌≡◌, ℕ, zero, suc, ◌<◌, ◌≤◌, Bool, true, false, List, [], ◌∷◌, length, get_or, Some, None, Option, sym, refl, ap, ◌∙◌, arith}
 use Rattle.std.proofs.lemmas.Bool.Decides.{nat_tests}
-use Rattle.state.specs.Limits.{min_delay, max_delay, max_total, parties}
+use Rattle.state.specs.Limits.{min_delay, max_delay, max_total}
 use Rattle.ledger.specs.declared.setup.SetUp.{SetUp}
-use Rattle.ledger.specs.declared.view.Parent.{Parent}
-use Rattle.ledger.specs.Laws.{Tied, Laid, Backed, Lawful, Untouched, child}
+use Rattle.ledger.specs.Laws.{Tied, Backed, Lawful, Untouched, child}
 use Rattle.ledger.specs.Model.{Model, Place, fresh, nowhere, place_at, status_by, shows_state}
-use Rattle.ledger.specs.SetUps.{good_delay, good_funding, delay_made, funding_made, open_root, open_roots, started_by}
+use Rattle.ledger.specs.SetUps.{delay_made, funding_made, open_root, open_roots, started_by}
 use Rattle.ledger.proofs.Changing.{none_some}
 
 pub funding_capped : (good : Bool) (f : ℕ) → funding_made good f ≤ max_total

@@ -3,7 +3,7 @@ use Rattle.state.specs.declared.state.State.{State}
 use Rattle.state.specs.Limits.{max_height, min_delay, max_delay, min_number, max_number, max_total, parties}
 use Rattle.state.specs.Refusals.{accepted, first}
 use Rattle.ledger.specs.declared.view.Parent.{Parent}
-use Rattle.ledger.specs.Model.{Model, Place, Stage, fresh, holds, done, place_at, value_of, Status, shut, idle, posted, settled, status, is_shut, is_settled, shows_state, shown_number, shown_amounts}
+use Rattle.ledger.specs.Model.{Model, Place, Stage, fresh, holds, done, place_at, value_of, shut, idle, posted, settled, status, is_shut, is_settled, shows_state, shown_number, shown_amounts}
 use Rattle.ledger.specs.Steps.{is_none, post_checks, post_next, settle_checks, settle_next, advance_checks, advance_next}
 
 -- the most places of a ledger, and the children of a factory place

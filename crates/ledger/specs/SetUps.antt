@@ -1,4 +1,4 @@
-use Rattle.std.specs.Prelude.{ℕ, Bool, true, false, cond, not, ◌&&◌, ◌||◌, List, [], ◌∷◌, None, ◌==◌, nat_le}
+use Rattle.std.specs.Prelude.{ℕ, Bool, true, cond, not, ◌&&◌, ◌||◌, List, [], ◌∷◌, None, ◌==◌, nat_le}
 use Rattle.state.specs.Limits.{min_delay, max_delay, max_total}
 use Rattle.ledger.specs.declared.setup.SetUp.{SetUp}
 use Rattle.ledger.specs.declared.row.Row.{Row}

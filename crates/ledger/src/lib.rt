@@ -1,4 +1,6 @@
 // Ledgers and hosts: what they mean, the three calls and the laws, and what implementations share.
+#![tactic(auto)]
+
 pub mod children;
 pub mod host;
 pub mod phase;

@@ -1,4 +1,6 @@
 // The output chain: a host that keeps the unspent outputs of its eight roots.
+#![tactic(auto)]
+
 mod cells;
 pub mod chain;
 pub mod host;

@@ -1,4 +1,6 @@
 // A sample run of a station: a factory with two channels, an old state that is posted and answered, claims and settlements.
+#![tactic(auto)]
+
 ghost use Rattle.std.specs.Prelude.{◌≡◌};
 ghost use Rattle.factory.specs.Factories.{model_of as factoryModel};
 ghost use Rattle.ledger.specs.Laws.{Lawful, Untouched};

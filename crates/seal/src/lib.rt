@@ -1,4 +1,6 @@
 // Seals: the meaning of every scheme, and two schemes, the register and the tags.
+#![tactic(auto)]
+
 pub mod key;
 pub mod register;
 pub mod register_scheme;

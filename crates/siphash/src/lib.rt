@@ -1,3 +1,5 @@
+#![tactic(auto)]
+
 ghost use Rattle.std.specs.Prelude.{◌≡◌, ℕ, ◌<◌, List, map, length, fold};
 ghost use Rattle.siphash.specs.Sip.{sip_round, initial, compress, finalize, little_endian, whole_words, left_over, last_word, sip_hash, word_bytes};
 

@@ -1,4 +1,4 @@
-use Rattle.std.specs.Prelude.{◌≡◌, ℕ, ◌≤◌, Bool, List, [], ◌∷◌, replicate, sum, nat_lt}
+use Rattle.std.specs.Prelude.{ℕ, Bool, List, [], ◌∷◌, replicate, sum, nat_lt}
 use Rattle.state.specs.declared.raw.RawState.{RawState}
 use Rattle.state.specs.declared.state.State.{State}
 use Rattle.state.specs.Limits.{max_place, min_number, max_number, max_total}

@@ -1,4 +1,6 @@
 // Tags for callers in C, over plain numbers.
+#![tactic(auto)]
+
 ghost use Rattle.std.specs.Prelude.{◌≡◌};
 ghost use Rattle.tag_c.specs.TagC.{raw, answer_number, tag_after};
 

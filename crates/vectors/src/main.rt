@@ -1,3 +1,5 @@
+#![tactic(auto)]
+
 ghost use Rattle.std.specs.Prelude.{◌≡◌, length, IfOk, vec_len, ◌==◌};
 ghost use Rattle.siphash.specs.Sip.{sip_hash, word_bytes};
 

@@ -10,7 +10,7 @@ loop-i-preserved c =
     let made = c.loop-i.made in
     let i = c.loop-i.i in
     let v = c.loop-i.invariant in
-    let x = c.funding-made.ensures in (
+    let x = c.funding_made.ensures in (
       length-set made i _ ∙ v.0,
       more_made (λ y. y) (funding_made true) made c.args.fundings.now i _ (omega (arith, v.0)) (search rules) v.1 x.value,
       capped_set made i _ max_total (omega (arith, v.0)) v.2 x.capped,

@@ -8,7 +8,7 @@ loop-i-preserved c =
     let rows = c.loop-i.rows in
     let i = c.loop-i.i in (
       length-set rows i _ ∙ c.loop-i.invariant.0,
-      more_made figures (new_figures true) rows c.args.delays.now i _ (omega (arith, c.loop-i.invariant.0)) (search rules) c.loop-i.invariant.1 c.row-made.ensures,
+      more_made figures (new_figures true) rows c.args.delays.now i _ (omega (arith, c.loop-i.invariant.0)) (search rules) c.loop-i.invariant.1 c.row_made.ensures,
     )
 
 pub returns : goal.returns

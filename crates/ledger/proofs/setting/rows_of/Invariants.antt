@@ -1,4 +1,4 @@
-use Rattle.std.proofs.Common.{◌≡◌, ◌≤◌, true, map, length, take}
+use Rattle.std.proofs.Common.{◌≡◌, true, map, length, take}
 use Rattle.ledger.specs.SetUps.{figures, new_figures}
 use Rattle.ledger.proofs.setting.rows_of.Given as goal
 
