@@ -21,7 +21,7 @@ LEMMAS = {"all-taken", "checks-at", "child-of", "mark-each", "new-children", "po
 
 # a lemma that the kit's script brought to the name of a definition
 FIRST = {"crates/siphash/proofs/Words.antt": [("whole_words", "whole_words_lem")]}
-# names that the check makes too, which stay in the folders of proofs/
+# names that the check makes too: after a dot they stay in the folders of proofs/
 MADE = {"count-is"}
 
 
@@ -65,7 +65,12 @@ def main():
         for old, other in FIRST.get(path, []):
             new = re.sub(rf"(?<![\w'\-]){old}(?![\w'\-])", other, new)
         of_function = path.count("/") > 3
-        new = one.sub(lambda m: m.group(0) if of_function and m.group(0) in MADE else turn[m.group(0)], new)
+
+        def turned(m):
+            made = of_function and m.group(0) in MADE and m.string[m.start() - 1] == "."
+            return m.group(0) if made else turn[m.group(0)]
+
+        new = one.sub(turned, new)
         if new != text:
             open(path, "w", encoding="utf-8").write(new)
     print(f"{len(turn)} names")

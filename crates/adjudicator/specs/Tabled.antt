@@ -9,7 +9,7 @@ use Rattle.ledger.specs.Laws.{Tied, Laid}
 use Rattle.ledger.specs.Model.{Model, Place, Stage, nowhere, place_at, value_of, value_by, PlaceShows}
 use Rattle.ledger.specs.Rows.{stage_of}
 use Rattle.ledger.specs.SetUps.{figures, new_figures, delay_made, funding_made, open_root, open_roots}
-use Rattle.ledger.specs.Steps.{Does, worth, staged, with_stage, place_checks}
+use Rattle.ledger.specs.Steps.{Does, staged, with_stage, place_checks}
 use Rattle.ledger.proofs.Lifting.{lifts}
 use Rattle.adjudicator.specs.declared.table.Adjudicator.{Adjudicator}
 use Rattle.adjudicator.specs.Tables.{root, roots, model_of}

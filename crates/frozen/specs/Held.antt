@@ -1,5 +1,5 @@
 -- A frozen copy and the ledger that it was taken of.
-use Rattle.std.specs.Prelude.{◌≡◌, ℕ, zero, suc, ◌+◌, ◌<◌, ◌≤◌, Bool, true, false, not, ◌&&◌, List, [], ◌∷◌, ◌++◌, map, length, get_or, take, replicate, Some, None, Option, slice_index_or, slice_set, refl}
+use Rattle.std.specs.Prelude.{◌≡◌, ℕ, zero, suc, ◌+◌, ◌<◌, ◌≤◌, true, List, [], ◌∷◌, ◌++◌, map, length, get_or, take, replicate, Some, None, Option, slice_index_or, slice_set, refl}
 use Rattle.std.proofs.Common.{sym, ap, subst, ◌∙◌, ⊎_elim, arith}
 use Rattle.std.proofs.lemmas.List.{length-map, length-take-le, get_or-map, get_or-take, get_or-set_same, get_or-set_other, map-append, map-set, take_more, take_more_set, take_all, take-map}
 use Rattle.std.proofs.lemmas.Bool.{cases_eq}
@@ -7,10 +7,8 @@ use Rattle.std.proofs.lemmas.Bool.Decides.{nat_tests}
 use Rattle.state.specs.Limits.{min_delay, max_delay}
 use Rattle.ledger.specs.declared.view.Parent.{Parent}
 use Rattle.ledger.specs.declared.view.View.{View}
-use Rattle.ledger.specs.declared.view.Standing.{Standing}
 use Rattle.ledger.specs.Laws.{Laid, Tied}
-use Rattle.ledger.specs.Model.{Model, Place, Stage, fresh, holds, done, Status, shut, idle, posted, settled, nowhere, place_at, value_of, value_by, share, status, status_by, is_settled, shows_state, shown_amounts, seen, PlaceShows}
-use Rattle.ledger.specs.Steps.{is_none}
+use Rattle.ledger.specs.Model.{Model, Place, Stage, fresh, holds, done, nowhere, place_at, value_of, status_by, PlaceShows}
 use Rattle.frozen.specs.declared.snapshot.Frozen.{Frozen}
 use Rattle.frozen.specs.Copies.{model_of}
 use Rattle.frozen.specs.Holding.{held_by, held_place, tied_by}

@@ -1,4 +1,4 @@
-use Rattle.std.proofs.Common.{◌≡◌, ◌<◌, ◌≤◌, length, refl, ◌∙◌, arith, length-set}
+use Rattle.std.proofs.Common.{◌<◌, length, refl, ◌∙◌, arith, length-set}
 use Rattle.frozen.specs.Held.{more_held, more_tied, all_held, nothing_tied}
 use Rattle.frozen.proofs.holding.views_of.Goals as goal
 
@@ -6,7 +6,7 @@ pub bounds-views-place : goal.bounds-views-place
 bounds-views-place g c = omega (arith, c.count-place-end.ensures, c.loop-place-test.true, (g.met.L.Ledger.laid c.args.ledger.now).few)
 
 pub loop-place-init : goal.loop-place-init
-loop-place-init g c = (refl, refl, λ k. nothing_tied c.no-view-views.result 64 k c.no-view-views.ensures.parent c.no-view-views.ensures.funding)
+loop-place-init g c = (refl, refl, λ k. nothing_tied c.no_view-views.result 64 k c.no_view-views.ensures.parent c.no_view-views.ensures.funding)
 
 pub loop-place-preserved : goal.loop-place-preserved
 loop-place-preserved g c =
