@@ -1,14 +1,14 @@
 -- A factory as it is made.
-use Rattle.std.proofs.Common.{◌≡◌, ℕ, zero, suc, ◌<◌, ◌≤◌, Bool, true, false, not, ◌&&◌, ltb, leb, List, [], ◌∷◌, ◌++◌, map, length, get_or, sym, refl, ap, ◌∙◌, subst, arith}
+use Rattle.std.proofs.Common.{◌≡◌, ℕ, zero, suc, ◌<◌, ◌≤◌, Bool, true, false, List, [], ◌∷◌, ◌++◌, map, length, get_or, sym, refl, ap, ◌∙◌, subst, arith}
 use Rattle.std.proofs.lemmas.List.{get_or_past}
 use Rattle.std.proofs.lemmas.Bool.Decides.{nat_tests}
 use Rattle.ledger.specs.declared.row.Row.{Row}
 use Rattle.ledger.specs.Laws.{Lawful, Untouched, child, has_children}
-use Rattle.ledger.specs.Model.{Model, Place, Stage, fresh, nowhere, place_at, value_by, status, status_by, shows_state}
+use Rattle.ledger.specs.Model.{Model, Place, Stage, fresh, nowhere, value_by, status, status_by, shows_state}
 use Rattle.ledger.specs.Rows.{stage_of}
-use Rattle.ledger.specs.SetUps.{good_delays, delay_made, figures, new_figures}
+use Rattle.ledger.specs.SetUps.{delay_made, figures, new_figures}
 use Rattle.ledger.proofs.Offspring.{no_child}
-use Rattle.factory.specs.Extending.{child_place, children, max_below, grows, extended, founds, new_children, founded_by, founded}
+use Rattle.factory.specs.Extending.{children, max_below, grows, extended, founds, new_children, founded_by, founded}
 use Rattle.factory.specs.Laying.{ext_lawful, ext_untouched}
 
 -- new rows are new children, and hold no state

@@ -1,17 +1,17 @@
 -- The layout of a factory's places, and its laws.
-use Rattle.std.specs.Prelude.{◌≡◌, ℕ, ◌+◌, ◌-◌, ◌<◌, ◌≤◌, Bool, true, false, ◌⊎◌, List, [], ◌∷◌, length, get_or, Some, None, Option, ◌≢◌, slice_index_or, refl}
+use Rattle.std.specs.Prelude.{◌≡◌, ℕ, ◌+◌, ◌-◌, ◌<◌, ◌≤◌, Bool, true, false, ◌⊎◌, List, [], ◌∷◌, length, get_or, Some, Option, ◌≢◌, slice_index_or, refl}
 use Rattle.std.proofs.Common.{sym, ap, subst, ◌∙◌, inl, inr, arith}
 use Rattle.std.proofs.lemmas.Bool.{cases_lt}
 use Rattle.state.specs.Limits.{min_delay, max_delay, parties}
 use Rattle.ledger.specs.declared.row.Row.{Row}
 use Rattle.ledger.specs.declared.view.Parent.{Parent}
 use Rattle.ledger.specs.Laws.{Laid, Tied, Backed, Lawful, Untouched, child}
-use Rattle.ledger.specs.Model.{Model, Place, Stage, fresh, place_at, value_of, share, status, status_by, shows_state}
+use Rattle.ledger.specs.Model.{Model, Place, fresh, place_at, value_of, share, status_by, shows_state}
 use Rattle.ledger.specs.Rows.{stage_of}
 use Rattle.ledger.proofs.Changing.{some_same}
 use Rattle.ledger.proofs.Starting.{unused_shows}
 use Rattle.factory.specs.Extending.{child_place, max_below, grows, extended}
-use Rattle.factory.specs.Extended.{ext, count_ext, lower_place, lower_value, upper_place, upper_value, Grown, grown}
+use Rattle.factory.specs.Extended.{ext, count_ext, lower_place, lower_value, upper_place, upper_value, grown}
 
 module _ (seat : ℕ) (rows : List Row) (m : Model) (lay : Laid m) (room : length m.places ≤ max_below) (seated : seat < length m.places) (long : length rows ≡ 8) (d : Row) where
   abbrev x : Model

@@ -8,5 +8,5 @@ returns g c =
     let m = g.B.Ledger.model s.below in
     let p = c.args.place in
     let h = c.shown-standing.ensures in
-    child_shows s.live m s.seat s.rows p c.args.index c.requires.at c.requires.within c.index-self-index.result _ c.value-at-value.result c.value-at-value.ensures
+    child_shows s.live m s.seat s.rows p c.args.index c.requires.at c.requires.within c.index-self-index.result _ c.value_at-value.result c.value_at-value.ensures
     (record { parent = refl; delay = refl; funding = refl; status = h.0; amounts = h.1 })

@@ -1,4 +1,4 @@
-use Rattle.std.proofs.Common.{◌≡◌, ℕ, get_or, subst}
+use Rattle.std.proofs.Common.{get_or, subst}
 use Rattle.ledger.specs.Model.{value_of}
 use Rattle.ledger.specs.Rows.{stage_of, call_checks, call_next}
 use Rattle.ledger.specs.Steps.{Does, worth}

@@ -11,10 +11,10 @@ returns-in-Settled g c =
     sym (ap (λ st. share_of (seen st view.amounts) i) c.in-Settled.is)
     ∙ value_told s.live (g.B.Ledger.model s.below) s.seat s.rows c.args.place i c.requires.at c.requires.within view c.in-Ok.ensures
 
-pub returns-in-default : goal.returns-in-default
-returns-in-default g c =
+pub returns-in_default : goal.returns-in_default
+returns-in_default g c =
     let s = c.args.self.now in
     let view = c.in-Ok.view in
     let i = c.args.index in
-    sym (not_settled view.standing view.amounts i c.in-default.not-Settled)
+    sym (not_settled view.standing view.amounts i c.in_default.not-Settled)
     ∙ value_told s.live (g.B.Ledger.model s.below) s.seat s.rows c.args.place i c.requires.at c.requires.within view c.in-Ok.ensures
