@@ -3,7 +3,7 @@
 set -e
 here=$(cd "$(dirname "$0")" && pwd)
 cd "$here/../.."
-rt staticlib tag_c
+(cd crates/tag_c && rt lib)
 mkdir -p target/bench
-gcc -O3 -Wall -o target/bench/tag "$here/main.c" "$here/tag.c" target/staticlib/libtag_c.a
+gcc -O3 -Wall -o target/bench/tag "$here/main.c" "$here/tag.c" crates/tag_c/out/libtag_c.a
 target/bench/tag

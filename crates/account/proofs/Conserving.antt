@@ -1,15 +1,14 @@
 -- Every lawful ledger conserves: what is paid and what stands add up to the fundings.
-use Rattle.std.proofs.Common.{◌≡◌, ℕ, zero, suc, ◌+◌, ◌<◌, ◌≤◌, Bool, true, false, cond, not, ◌&&◌, eqb, ◌⊎◌, List, [], ◌∷◌, length, get_or, Some, None, sum, Option, sym, refl, ap, ◌∙◌, subst, inl, inr, arith}
+use Rattle.std.proofs.Common.{◌≡◌, ℕ, ◌+◌, ◌<◌, Bool, true, false, cond, ◌&&◌, eqb, ◌⊎◌, List, length, get_or, Some, None, sum, Option, sym, refl, ap, ◌∙◌, subst, inl, inr, arith}
 use Rattle.std.proofs.lemmas.Bool.{eqb-true, eq-eqb, ne_eqb, cases_Bool, and_parts}
 use Rattle.state.specs.Limits.{parties}
 use Rattle.ledger.specs.declared.view.Parent.{Parent}
 use Rattle.ledger.specs.Laws.{Tied, Backed, Lawful, child, has_children}
-use Rattle.ledger.specs.Model.{Model, Place, Stage, fresh, holds, done, Status, shut, idle, posted, settled, place_at, value_of, value_by, share, status, status_by}
+use Rattle.ledger.specs.Model.{Model, Stage, fresh, holds, done, place_at, value_of, value_by, share, status_by}
 use Rattle.ledger.specs.Steps.{worth}
-use Rattle.ledger.proofs.Changing.{some_same, none_some}
 use Rattle.ledger.proofs.Offspring.{no_child, some_child}
 use Rattle.account.specs.Sums.{sum_to}
-use Rattle.account.specs.Accounts.{is_root, pays, paid_at, stands, standing_at, paid, standing_sum, fundings, Conserved}
+use Rattle.account.specs.Accounts.{is_root, pays, paid_at, stands, standing_at, Conserved}
 use Rattle.account.proofs.Summing.{sum_same, sum_none, sum_add, sum_swap, sum_one, sum_list}
 
 eight_sum : (a : List ℕ) → length a ≡ parties → sum_to parties (λ j. get_or a j 0) ≡ sum a

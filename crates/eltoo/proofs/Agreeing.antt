@@ -1,17 +1,16 @@
 -- An accepted agree keeps the agreed states fitting together.
-use Rattle.std.proofs.Common.{◌≡◌, ℕ, zero, suc, ◌+◌, ◌<◌, ◌≤◌, Bool, true, false, not, ◌&&◌, ◌||◌, eqb, ltb, leb, ◌⊎◌, List, [], ◌∷◌, length, get_or, set, Some, None, Option, sym, refl, ap, ◌∙◌, subst, inl, inr, arith}
+use Rattle.std.proofs.Common.{◌≡◌, ℕ, zero, suc, ◌<◌, Bool, true, false, not, ◌&&◌, ◌||◌, eqb, ltb, ◌⊎◌, List, length, get_or, set, Some, None, Option, sym, refl, ap, ◌∙◌, inl, inr, arith}
 use Rattle.std.proofs.lemmas.List.{get_or-set_same, get_or-set_other, length-set}
-use Rattle.std.proofs.lemmas.Bool.{cases_eq, cases_Bool, eqb-true, eq-eqb, true≢false, not-false, leb-false, ltb-true}
+use Rattle.std.proofs.lemmas.Bool.{cases_eq, eqb-true, eq-eqb, true≢false, not-false, ltb-true}
 use Rattle.std.proofs.lemmas.Bool.Decides.{nat_tests}
 use Rattle.state.specs.declared.state.State.{State}
 use Rattle.state.specs.declared.update.Update.{Update}
 use Rattle.state.specs.Refusals.{accepted, first}
 use Rattle.state.proofs.Checking.{Passed, all_passed}
 use Rattle.ledger.specs.declared.view.Parent.{Parent}
-use Rattle.ledger.specs.Laws.{Lawful, child, max_places}
-use Rattle.ledger.specs.Model.{Model, Place, place_at, Status, posted, settled, status, is_settled}
+use Rattle.ledger.specs.Model.{place_at, posted, settled, status, is_settled}
 use Rattle.ledger.proofs.Changing.{some_same, none_some}
-use Rattle.eltoo.specs.Stations.{StationModel, count, total, newest_at, is_posted, outdated, allotted, allotment_by, allotment, unallotted, differs, agreed_other, binds_by, binds, any_below, agree_checks}
+use Rattle.eltoo.specs.Stations.{StationModel, count, total, newest_at, is_posted, allotted, allotment_by, allotment, unallotted, differs, binds_by, binds, any_below, agree_checks}
 use Rattle.eltoo.proofs.Moves.{parent_below}
 use Rattle.eltoo.proofs.Sound.{state_by, kept, Same, Stale, Sound}
 

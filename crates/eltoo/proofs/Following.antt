@@ -1,13 +1,13 @@
 -- What every call keeps, whatever the premises: a lawful ledger and its layout.
-use Rattle.std.proofs.Common.{◌≡◌, ℕ, zero, suc, ◌+◌, ◌<◌, ◌≤◌, Bool, true, false, cond, ◌⊎◌, List, [], ◌∷◌, Some, None, Option, sym, refl, ap, ◌∙◌, subst, inl, inr, arith}
-use Rattle.std.proofs.lemmas.Bool.{cases_Bool, cond-true, cond-false, cond_both, true≢false}
+use Rattle.std.proofs.Common.{◌≡◌, ℕ, zero, suc, Bool, true, false, List, [], ◌∷◌, Some, None, Option, sym, refl, ap, subst}
+use Rattle.std.proofs.lemmas.Bool.{cond_both, true≢false}
 use Rattle.state.specs.declared.refusal.Refusal.{Refusal}
 use Rattle.state.specs.declared.state.State.{State}
 use Rattle.state.specs.declared.update.Update.{Update}
 use Rattle.state.specs.Refusals.{accepted, refused, either, first}
 use Rattle.ledger.specs.Laws.{Lawful}
 use Rattle.ledger.specs.Model.{Model}
-use Rattle.ledger.specs.Steps.{post_checks, post_next, settle_checks, settle_next, advance_checks, advance_next}
+use Rattle.ledger.specs.Steps.{post_checks, post_next, settle_checks, settle_next}
 use Rattle.ledger.proofs.Keeping.{steps_keep}
 use Rattle.state.proofs.Checking.{all_passed}
 use Rattle.eltoo.specs.declared.answer.Answer.{Answer}

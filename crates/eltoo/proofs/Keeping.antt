@@ -1,6 +1,6 @@
 -- What holds along every run that meets the premises.
-use Rattle.std.proofs.Common.{◌≡◌, ℕ, zero, suc, ◌+◌, ◌<◌, ◌≤◌, Bool, true, false, cond, not, ◌&&◌, ◌||◌, eqb, ltb, leb, ◌⊎◌, List, [], ◌∷◌, length, get_or, set, replicate, Some, None, Option, sym, refl, ap, ◌∙◌, subst, inl, inr, arith}
-use Rattle.std.proofs.lemmas.List.{length-set, length-replicate}
+use Rattle.std.proofs.Common.{◌≡◌, ℕ, zero, suc, ◌+◌, ◌<◌, ◌≤◌, Bool, true, false, cond, ◌&&◌, eqb, ltb, ◌⊎◌, List, [], ◌∷◌, length, get_or, replicate, Some, None, Option, sym, refl, ap, ◌∙◌, subst, inl, inr, arith}
+use Rattle.std.proofs.lemmas.List.{length-replicate}
 use Rattle.std.proofs.lemmas.Bool.{cases_eq, eq-eqb, ne_eqb, true≢false, not-false, ltb-true, leb-false, or_left, or_right}
 use Rattle.state.specs.declared.refusal.Refusal.{Refusal}
 use Rattle.state.specs.declared.state.State.{State}
@@ -8,29 +8,28 @@ use Rattle.state.specs.declared.update.Update.{Update}
 use Rattle.state.specs.Refusals.{accepted, first}
 use Rattle.state.proofs.Checking.{Passed, all_passed}
 use Rattle.ledger.specs.declared.view.Parent.{Parent}
-use Rattle.ledger.specs.Laws.{Lawful, max_places, child}
-use Rattle.ledger.specs.Model.{Model, place_at, Status, posted, settled, status, is_settled, shows_state}
-use Rattle.ledger.specs.Steps.{post_checks, post_next, settle_checks, settle_next, advance_checks, advance_next}
+use Rattle.ledger.specs.Laws.{max_places, child}
+use Rattle.ledger.specs.Model.{Model, place_at, shows_state}
+use Rattle.ledger.specs.Steps.{post_next, settle_checks, settle_next, advance_checks, advance_next}
 use Rattle.ledger.proofs.Changing.{some_same, none_some}
 use Rattle.eltoo.specs.declared.answer.Answer.{Answer}
-use Rattle.eltoo.specs.declared.answer.Answer.TheVariants.{Refused, Done, Sealed, Counted}
+use Rattle.eltoo.specs.declared.answer.Answer.TheVariants.{Refused, Done, Sealed}
 use Rattle.eltoo.specs.declared.call.Call.{Call}
 use Rattle.eltoo.specs.declared.call.Call.TheVariants.{Agree, Claim, Post, Settle, Advance, Round}
 use Rattle.eltoo.specs.Lineage.{HangsFrom, from_parent, from_further, lineage, among}
-use Rattle.eltoo.specs.Stations.{StationModel, means, set_up, count, total, newest_at, allotted, allotment_by, is_marked, is_posted, is_agreed, outdated, agree_checks, claim_checks, sealed_post_checks, with_ledger, mark_each, claim_next}
-use Rattle.eltoo.specs.Rounds.{Tour, starting, visits, whole_round}
+use Rattle.eltoo.specs.Stations.{StationModel, means, count, total, newest_at, allotted, allotment_by, is_marked, is_agreed, outdated, agree_checks, claim_checks, sealed_post_checks, with_ledger, claim_next}
+use Rattle.eltoo.specs.Rounds.{Tour, starting, whole_round}
 use Rattle.eltoo.specs.Steps.{Own, Keeps, Step}
 use Rattle.eltoo.specs.Runs.{Entry, Begins, Run, is_accepting, Agreed, newest_by, newest_agreed, Claimed, Passes, SealedEarlier, risen_by, risen, Gaps, BelowDelays, InTime}
 use Rattle.eltoo.proofs.Standings.{settle_taken}
-use Rattle.eltoo.proofs.Moves.{Alike, alike_same, alike_back, post_alike, settle_alike, advance_alike, delay_same, parent_below}
+use Rattle.eltoo.proofs.Moves.{Alike, post_alike, settle_alike, advance_alike, delay_same, parent_below}
 use Rattle.eltoo.proofs.Sound.{state_by, kept, NotNewer, Sound, sound_post, sound_settle, sound_advance}
 use Rattle.eltoo.proofs.Agreeing.{keeping, kept_here, kept_other, sound_agree}
-use Rattle.eltoo.proofs.Visiting.{Visited}
 use Rattle.eltoo.proofs.Rounds.{Brief, all_visits, round_sound}
-use Rattle.eltoo.proofs.Lineages.{Above, above_more, above_alike, above_count, above_listed, mark_each_lem, mark_length}
+use Rattle.eltoo.proofs.Lineages.{Above, above_alike, above_count, above_listed, mark_each_lem, mark_length}
 use Rattle.eltoo.proofs.Timely.{Timely, timely_post, timely_settle, timely_advance, timely_agree, timely_mark}
 use Rattle.eltoo.proofs.TimelyRounds.{all_timely}
-use Rattle.eltoo.proofs.Following.{Decision, refusing, doing, decision, Agreement, refusing_it, keeping_it, agreement, Follows, step_follows, run_lawful, host_accepts}
+use Rattle.eltoo.proofs.Following.{refusing, doing, decision, refusing_it, keeping_it, agreement, step_follows, run_lawful, host_accepts}
 
 -- p and every place that it hangs from is in time, since p was claimed at height h
 pub record Timed (t : List (Option Update)) (ks : List Bool) (m : Model) (g h r p : ℕ) : Type 0 where

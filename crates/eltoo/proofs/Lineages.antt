@@ -1,12 +1,12 @@
 -- The places that a place hangs from, and the sums that their delays make.
-use Rattle.std.proofs.Common.{◌≡◌, ℕ, zero, suc, ◌+◌, ◌<◌, ◌≤◌, Bool, true, false, ◌||◌, eqb, ◌⊎◌, List, [], ◌∷◌, map, length, get_or, set, Some, None, sum, Option, sym, refl, ap, ◌∙◌, subst, inl, inr, arith}
+use Rattle.std.proofs.Common.{◌≡◌, ℕ, zero, suc, ◌+◌, ◌<◌, Bool, true, false, ◌||◌, eqb, ◌⊎◌, List, [], ◌∷◌, map, length, set, Some, None, sum, Option, sym, refl, ap, ◌∙◌, subst, inl, inr, arith}
 use Rattle.std.proofs.lemmas.List.{get_or-set_same, get_or-set_other, length-set}
 use Rattle.std.proofs.lemmas.List.Sums.{sum_by-cons}
 use Rattle.std.proofs.lemmas.Bool.{cases_eq, eqb-true, eq-eqb, ne_eqb, or_left, or_right, or_cases, true≢false}
 use Rattle.ledger.specs.declared.view.Parent.{Parent}
 use Rattle.ledger.specs.Laws.{Laid, child}
-use Rattle.ledger.specs.Model.{Model, Place, nowhere, place_at}
-use Rattle.eltoo.specs.Lineage.{HangsFrom, from_parent, from_further, upward, lineage, among, Falling, LineageLists, LineagesList, wait}
+use Rattle.ledger.specs.Model.{Model, place_at}
+use Rattle.eltoo.specs.Lineage.{HangsFrom, from_parent, from_further, upward, lineage, among, Falling, LineagesList, wait}
 use Rattle.eltoo.specs.Stations.{count, is_marked, mark_each}
 use Rattle.eltoo.proofs.Moves.{Alike, parent_same, delay_same, parent_below}
 

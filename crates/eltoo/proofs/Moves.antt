@@ -1,16 +1,16 @@
 -- The steps of a host keep the layout; what a settlement does to each place.
-use Rattle.std.proofs.Common.{◌≡◌, ℕ, ◌+◌, ◌<◌, ◌≤◌, ◌⊎◌, List, [], ◌∷◌, length, Some, None, Option, sym, refl, ap, ◌∙◌, subst, inl, inr, arith}
+use Rattle.std.proofs.Common.{◌≡◌, ℕ, ◌<◌, ◌⊎◌, length, Some, None, Option, sym, refl, ap, ◌∙◌, subst, inl, inr}
 use Rattle.std.proofs.lemmas.Bool.{cases_eq}
 use Rattle.state.specs.declared.state.State.{State}
 use Rattle.state.specs.Limits.{parties}
 use Rattle.state.specs.Refusals.{accepted, first}
 use Rattle.ledger.specs.declared.view.Parent.{Parent}
 use Rattle.ledger.specs.Laws.{Tied, Laid, Lawful, child}
-use Rattle.ledger.specs.Model.{Model, Place, Stage, fresh, place_at, Status, shut, idle, status}
+use Rattle.ledger.specs.Model.{Model, Place, Stage, fresh, place_at, shut, idle, status}
 use Rattle.ledger.specs.Steps.{staged, posted_stage, settled_stage, with_stage, post_checks, post_next, settle_checks, settle_next, advance_next}
 use Rattle.ledger.proofs.Changing.{some_same, none_some, layout, count_is}
 use Rattle.ledger.proofs.Showing.{steps_show}
-use Rattle.eltoo.proofs.Standings.{PostTaken, post_taken, SettleTaken, settle_taken}
+use Rattle.eltoo.proofs.Standings.{post_taken, settle_taken}
 
 -- two ledgers with the same layout
 pub record Alike (m n : Model) : Type 0 where

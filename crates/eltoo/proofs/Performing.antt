@@ -1,5 +1,5 @@
 -- A list of calls goes on with every run that led to it.
-use Rattle.std.proofs.Common.{◌≡◌, List, [], ◌∷◌, ◌++◌, map, reverse, sym, refl, ap, ◌∙◌, subst, append_assoc, append-nil}
+use Rattle.std.proofs.Common.{List, [], ◌∷◌, ◌++◌, map, reverse, sym, refl, ap, ◌∙◌, subst, append_assoc, append-nil}
 use mathlib.Core.List.{reverse-cons}
 use Rattle.seal.specs.Registers.{RowGives}
 use Rattle.eltoo.specs.declared.turn.Turn.{Turn}
@@ -7,7 +7,7 @@ use Rattle.eltoo.specs.Stations.{StationModel}
 use Rattle.eltoo.specs.Steps.{Own, Step}
 use Rattle.eltoo.specs.Runs.{Entry, Run, origin}
 use Rattle.eltoo.specs.Safety.{NoneGood, Starts}
-use Rattle.eltoo.specs.Lists.{Performs, turn_of, Story, Performed, WholeRun, FreshStory, WholeFreshRun}
+use Rattle.eltoo.specs.Lists.{Performs, turn_of, Story, Performed, WholeRun, WholeFreshRun}
 use Rattle.eltoo.proofs.Safely.{safe, safe_fresh}
 
 -- one call more at the end

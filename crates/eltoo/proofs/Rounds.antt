@@ -1,11 +1,11 @@
 -- A whole round: afterwards every posted place shows its newest agreed state.
-use Rattle.std.proofs.Common.{◌≡◌, ℕ, zero, suc, ◌+◌, ◌<◌, ◌≤◌, Bool, true, false, ◌⊎◌, List, [], ◌∷◌, length, get_or, Some, None, Option, sym, refl, ap, ◌∙◌, subst, inl, inr, arith}
+use Rattle.std.proofs.Common.{◌≡◌, ℕ, zero, suc, ◌<◌, ◌≤◌, Bool, List, Some, None, Option, sym, refl, ap, subst, inl, arith}
 use Rattle.state.specs.declared.state.State.{State}
 use Rattle.state.specs.declared.update.Update.{Update}
 use Rattle.ledger.specs.Model.{Model, place_at}
 use Rattle.eltoo.specs.Stations.{count, newest_at}
 use Rattle.eltoo.specs.Rounds.{Tour, tried_post, visit, visits}
-use Rattle.eltoo.proofs.Moves.{Alike, alike_same, delay_same}
+use Rattle.eltoo.proofs.Moves.{alike_same, delay_same}
 use Rattle.eltoo.proofs.Sound.{state_by, kept, Sound}
 use Rattle.eltoo.proofs.Visiting.{FirstHalf, SecondHalf, first_half, second_half, sound₁, alike₁, Visited, one_visit, no_visit}
 

@@ -1,30 +1,27 @@
 -- No run breaks the promises.
-use Rattle.std.proofs.Common.{◌≡◌, ℕ, zero, suc, ◌+◌, ◌<◌, ◌≤◌, Bool, true, false, cond, not, ◌&&◌, ◌⊎◌, List, [], ◌∷◌, length, get_or, Some, None, Option, sym, refl, ap, ◌∙◌, subst, inl, inr, arith}
+use Rattle.std.proofs.Common.{◌≡◌, ℕ, ◌<◌, ◌≤◌, Bool, true, false, cond, not, ◌&&◌, List, [], ◌∷◌, get_or, Option, sym, refl, ap, ◌∙◌, subst, inl, inr, arith}
 use Rattle.std.proofs.lemmas.Bool.{true≢false}
 use Rattle.state.specs.declared.state.State.{State}
-use Rattle.state.specs.Refusals.{accepted, first}
-use Rattle.account.specs.Accounts.{pays, paid_at, paid, Conserved}
-use Rattle.account.specs.Sums.{sum_to}
+use Rattle.account.specs.Accounts.{pays, paid_at}
 use Rattle.account.proofs.Conserving.{conserved}
 use Rattle.account.proofs.Summing.{sum_same}
-use Rattle.ledger.specs.Laws.{Lawful, Untouched, has_children}
-use Rattle.ledger.specs.Model.{Model, Status, shut, idle, posted, settled, status, is_settled, shown_amounts}
+use Rattle.ledger.specs.Laws.{has_children}
+use Rattle.ledger.specs.Model.{Status, shut, idle, posted, settled, status, is_settled}
 use Rattle.seal.specs.Registers.{RowGives}
 use Rattle.seal.specs.Seals.{Seals}
 use Rattle.eltoo.specs.declared.answer.Answer.{Answer}
-use Rattle.eltoo.specs.declared.answer.Answer.TheVariants.{Refused, Done, Sealed, Counted}
+use Rattle.eltoo.specs.declared.answer.Answer.TheVariants.{Sealed}
 use Rattle.eltoo.specs.declared.call.Call.{Call}
 use Rattle.eltoo.specs.declared.call.Call.TheVariants.{Agree, Claim, Post, Settle, Advance, Round}
-use Rattle.eltoo.specs.Lineage.{lineage, wait}
-use Rattle.eltoo.specs.Stations.{StationModel, count, claim_next, is_marked, with_ledger}
+use Rattle.eltoo.specs.Lineage.{lineage}
+use Rattle.eltoo.specs.Stations.{StationModel, count, with_ledger}
 use Rattle.eltoo.specs.Rounds.{whole_round}
 use Rattle.eltoo.specs.Steps.{Own, Decided, Keeps, Step}
-use Rattle.eltoo.specs.Runs.{Entry, Begins, Run, origin, is_accepting, Agreed, newest_agreed, Claimed, Passes, SealedEarlier, risen, InTime, amount_in, SettledNewest, SettledInTime, Holds}
-use Rattle.eltoo.specs.Safety.{Safe, GoesOn, NoneGood, HoldsFresh, SafeFresh, ClaimMarks}
-use Rattle.eltoo.proofs.Sound.{Same, Sound}
+use Rattle.eltoo.specs.Runs.{Entry, Run, origin, is_accepting, Agreed, newest_agreed, SealedEarlier, risen, amount_in, SettledNewest, SettledInTime}
+use Rattle.eltoo.specs.Safety.{Safe, GoesOn, NoneGood, SafeFresh, ClaimMarks}
 use Rattle.eltoo.proofs.Lineages.{whole, mark_each_lem}
-use Rattle.eltoo.proofs.Following.{Decision, refusing, doing, decision, Agreement, refusing_it, keeping_it, agreement, run_lawful}
-use Rattle.eltoo.proofs.Keeping.{Inv, Timed, gap_here, run_keeps}
+use Rattle.eltoo.proofs.Following.{refusing, doing, decision, refusing_it, keeping_it, agreement, run_lawful}
+use Rattle.eltoo.proofs.Keeping.{Inv, gap_here, run_keeps}
 
 -- every settled place shows its newest agreed state, and pays it
 settled_newest : (g : ℕ) (es : List Entry) (s : StationModel) → Inv g es s → SettledNewest es s

@@ -1,21 +1,17 @@
 -- What every call keeps: agreed states fit together, and what is posted or settled was agreed.
-use Rattle.std.proofs.Common.{◌≡◌, ℕ, zero, suc, ◌+◌, ◌<◌, ◌≤◌, Bool, true, false, not, ◌&&◌, eqb, ◌⊎◌, List, [], ◌∷◌, length, get_or, set, Some, None, Option, sym, refl, ap, ◌∙◌, subst, inl, inr, arith}
-use Rattle.std.proofs.lemmas.List.{get_or-set_same, get_or-set_other, length-set}
-use Rattle.std.proofs.lemmas.Bool.{cases_eq, eqb-true, eq-eqb, true≢false, not-false, ltb-true}
+use Rattle.std.proofs.Common.{◌≡◌, ℕ, ◌+◌, ◌<◌, ◌≤◌, ◌⊎◌, List, length, Some, None, Option, sym, ap, ◌∙◌, inl, inr, arith}
+use Rattle.std.proofs.lemmas.Bool.{cases_eq}
 use Rattle.state.specs.declared.state.State.{State}
 use Rattle.state.specs.declared.update.Update.{Update}
 use Rattle.state.specs.Refusals.{accepted, first}
-use Rattle.state.proofs.Checking.{Passed, all_passed}
-use Rattle.ledger.specs.declared.view.Parent.{Parent}
-use Rattle.ledger.specs.Laws.{Lawful, child, max_places}
-use Rattle.ledger.specs.Model.{Model, Place, place_at, value_of, Status, shut, idle, posted, settled, status, is_shut, is_settled, shown_number, shown_amounts}
-use Rattle.ledger.specs.Steps.{due_at, post_checks, post_next, settle_checks, settle_next, advance_checks, advance_next}
-use Rattle.ledger.proofs.Changing.{some_same, none_some}
-use Rattle.ledger.proofs.Keeping.{steps_keep, laws_hold}
+use Rattle.ledger.specs.Laws.{Lawful, max_places}
+use Rattle.ledger.specs.Model.{Model, Place, place_at, posted, settled, status, shown_number, shown_amounts}
+use Rattle.ledger.specs.Steps.{post_checks, post_next, settle_checks, settle_next, advance_checks, advance_next}
+use Rattle.ledger.proofs.Keeping.{steps_keep}
 use Rattle.ledger.proofs.Showing.{steps_show}
-use Rattle.eltoo.specs.Stations.{StationModel, count, total, newest_at, is_posted, outdated, allotted, allotment_by, allotment, unallotted, differs, agreed_other, binds_by, binds, any_below, agree_checks}
-use Rattle.eltoo.proofs.Standings.{posted_settled, idle_posted, idle_settled, post_taken, settle_taken}
-use Rattle.eltoo.proofs.Moves.{Alike, alike_same, post_alike, settle_alike, advance_alike, parent_below, SettleWay, itself, opens, stays, settle_way}
+use Rattle.eltoo.specs.Stations.{count, total, newest_at, allotment_by, allotment}
+use Rattle.eltoo.proofs.Standings.{posted_settled, idle_posted, idle_settled, settle_taken}
+use Rattle.eltoo.proofs.Moves.{Alike, post_alike, settle_alike, SettleWay, itself, opens, stays, settle_way}
 
 abbrev pub state_by : Option Update → Option State
 state_by None = None

@@ -1,15 +1,13 @@
 -- What the checks of a host say of what a place shows, in a lawful ledger.
-use Rattle.std.proofs.Common.{◌≡◌, ℕ, ◌+◌, ◌<◌, ◌≤◌, Bool, true, false, not, eqb, ltb, leb, ◌⊎◌, List, [], ◌∷◌, length, get_or, Some, None, sum, Option, sym, refl, ap, ◌∙◌, subst, inl, inr, arith}
-use Rattle.std.proofs.lemmas.Bool.{cases_eq, eq-eqb, lt-ltb, le-ltb, lt-leb, leb-false, ltb-false}
-use Rattle.std.proofs.lemmas.Bool.Decides.{nat_tests}
+use Rattle.std.proofs.Common.{◌≡◌, ℕ, ◌<◌, ◌≤◌, Bool, true, false, not, eqb, ltb, List, [], ◌∷◌, length, Some, None, sum, Option, sym, refl, ap, ◌∙◌, arith}
+use Rattle.std.proofs.lemmas.Bool.{eq-eqb, lt-ltb, le-ltb, lt-leb, leb-false, ltb-false}
 use Rattle.state.specs.declared.state.State.{State}
 use Rattle.state.specs.Refusals.{accepted, first}
-use Rattle.state.proofs.Checking.{Passed, all_passed, passed_over}
-use Rattle.ledger.specs.Laws.{Backed, Lawful, child}
-use Rattle.ledger.specs.Model.{Model, Stage, fresh, holds, done, place_at, value_of, Status, shut, idle, posted, settled, status, status_by, is_shut, is_settled}
+use Rattle.state.proofs.Checking.{Passed, passed_over}
+use Rattle.ledger.specs.Laws.{Backed, Lawful}
+use Rattle.ledger.specs.Model.{Model, Stage, fresh, holds, done, place_at, value_of, Status, shut, idle, posted, settled, status, status_by}
 use Rattle.ledger.specs.Steps.{due_at, is_none, worth, is_done, is_fresh, not_newer, early, post_stage_checks, settle_stage_checks, post_checks, settle_checks}
-use Rattle.ledger.proofs.Changing.{some_same, none_some, Reached, reached, valued_by}
-use Rattle.ledger.proofs.Keeping.{post_passed}
+use Rattle.ledger.proofs.Changing.{reached}
 
 -- no standing is two
 pub posted_settled : {n h k : ℕ} {a b : List ℕ} → posted n h a ≡ settled k b → ⊥

@@ -1,17 +1,17 @@
 -- How long a marked place can take, and that no call but a round makes it longer.
-use Rattle.std.proofs.Common.{◌≡◌, ℕ, zero, suc, ◌+◌, ◌<◌, ◌≤◌, Bool, true, false, ◌||◌, ◌⊎◌, List, [], ◌∷◌, length, get_or, set, Some, None, Option, sym, refl, ap, ◌∙◌, subst, inl, inr, arith}
+use Rattle.std.proofs.Common.{◌≡◌, ℕ, ◌+◌, ◌<◌, ◌≤◌, Bool, true, false, ◌⊎◌, List, length, Some, Option, sym, refl, ap, ◌∙◌, inl, inr, arith}
 use Rattle.std.proofs.lemmas.Bool.{cases_eq, true≢false}
 use Rattle.state.specs.declared.state.State.{State}
 use Rattle.state.specs.declared.update.Update.{Update}
 use Rattle.state.specs.Refusals.{accepted, first}
 use Rattle.ledger.specs.Laws.{Lawful}
-use Rattle.ledger.specs.Model.{Model, place_at, Status, shut, idle, posted, settled, status, is_shut, is_settled, shown_number, shown_amounts}
-use Rattle.ledger.specs.Steps.{post_checks, post_next, settle_checks, settle_next, advance_checks, advance_next}
-use Rattle.ledger.proofs.Changing.{some_same, none_some}
+use Rattle.ledger.specs.Model.{Model, place_at, posted, status, is_settled}
+use Rattle.ledger.specs.Steps.{post_checks, post_next, settle_checks, settle_next, advance_next}
+use Rattle.ledger.proofs.Changing.{some_same}
 use Rattle.ledger.proofs.Showing.{steps_show}
 use Rattle.eltoo.specs.Stations.{count, is_marked, is_posted}
-use Rattle.eltoo.proofs.Standings.{four, posted_settled, PostTaken, post_taken}
-use Rattle.eltoo.proofs.Moves.{Alike, alike_same, post_alike, settle_alike, advance_alike, delay_same, SettleWay, itself, opens, stays, settle_way}
+use Rattle.eltoo.proofs.Standings.{four, PostTaken, post_taken}
+use Rattle.eltoo.proofs.Moves.{Alike, post_alike, settle_alike, advance_alike, delay_same, SettleWay, itself, opens, stays, settle_way}
 use Rattle.eltoo.proofs.Sound.{kept, NotNewer}
 use Rattle.eltoo.proofs.Agreeing.{keeping, kept_here, kept_other}
 use Rattle.eltoo.proofs.Lineages.{ahead, ahead_alike}

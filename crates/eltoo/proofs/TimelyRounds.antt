@@ -1,25 +1,25 @@
 -- A round brings every marked place on: what it leaves undone could not be done yet.
-use Rattle.std.proofs.Common.{◌≡◌, ℕ, zero, suc, ◌+◌, ◌<◌, ◌≤◌, Bool, true, false, not, ◌&&◌, ◌||◌, ltb, leb, ◌⊎◌, List, [], ◌∷◌, length, get_or, Some, None, Option, sym, refl, ap, ◌∙◌, subst, inl, inr, arith}
+use Rattle.std.proofs.Common.{◌≡◌, ℕ, zero, suc, ◌+◌, ◌<◌, ◌≤◌, Bool, true, false, not, ◌&&◌, ◌||◌, ltb, ◌⊎◌, List, Some, None, Option, sym, refl, ap, ◌∙◌, subst, inl, inr, arith}
 use Rattle.std.proofs.lemmas.Bool.{cases_eq, true≢false, lt-ltb, le-ltb, leb-false}
 use Rattle.state.specs.declared.state.State.{State}
 use Rattle.state.specs.declared.update.Update.{Update}
 use Rattle.state.specs.Refusals.{accepted, first}
 use Rattle.ledger.specs.declared.view.Parent.{Parent}
-use Rattle.ledger.specs.Laws.{Lawful, child}
-use Rattle.ledger.specs.Model.{Model, place_at, Status, shut, idle, posted, settled, status, is_shut, is_settled, shown_number, shown_amounts}
-use Rattle.ledger.specs.Steps.{due_at, post_checks, post_next, settle_checks, settle_next}
+use Rattle.ledger.specs.Laws.{child}
+use Rattle.ledger.specs.Model.{Model, place_at, Status, shut, idle, posted, settled, status, is_shut, is_settled}
+use Rattle.ledger.specs.Steps.{post_checks, post_next}
 use Rattle.ledger.proofs.Changing.{some_same, none_some}
 use Rattle.ledger.proofs.Keeping.{laws_hold}
 use Rattle.ledger.proofs.Showing.{steps_show}
 use Rattle.eltoo.specs.Stations.{count, newest_at, is_marked, is_idle, is_posted}
 use Rattle.eltoo.specs.Rounds.{Tour, is_behind, wants_post, is_due, wants_settle, visit, visits}
-use Rattle.eltoo.proofs.Standings.{four, posted_settled, idle_posted, idle_settled, dated}
+use Rattle.eltoo.proofs.Standings.{four, dated}
 use Rattle.eltoo.proofs.Moves.{Alike, alike_then, delay_same, parent_same, parent_below}
 use Rattle.eltoo.proofs.Sound.{state_by, kept, Same, Stale, Sound}
 use Rattle.eltoo.proofs.Visiting.{FirstHalf, posts, rests, SecondHalf, settles, waits, sound₁, alike₁, height₁, others₁, alike₂, height₂, unposted₂, Visited}
-use Rattle.eltoo.proofs.Rounds.{Halves, halves, Brief, all_visits}
-use Rattle.eltoo.proofs.Lineages.{Above, above_more, above_count, ahead, ahead_alike, ahead_child}
-use Rattle.eltoo.proofs.Timely.{IsSettled, Up, Begun, Ended, Timely, timely_same, timely_done, timely_settle, timely_post}
+use Rattle.eltoo.proofs.Rounds.{halves, Brief, all_visits}
+use Rattle.eltoo.proofs.Lineages.{Above, above_more, ahead, ahead_alike, ahead_child}
+use Rattle.eltoo.proofs.Timely.{IsSettled, Up, Timely, timely_same, timely_done, timely_settle}
 
 -- after the first half of the visit of q: it is settled, or its newest state is up, or it is shut and as it was
 module _ (t : List (Option Update)) (ks : List Bool) (m n : Model) (g h r q : ℕ) (x : State) (ok : Sound t m r) (w : Timely t ks m g h r q) (k : kept t q ≡ Some x) (le : r ≤ g) (half : FirstHalf ks m q x n) where

@@ -1,22 +1,22 @@
 -- What the visits of a round do: under what the runs keep, none of their calls is refused.
-use Rattle.std.proofs.Common.{◌≡◌, ℕ, zero, suc, ◌+◌, ◌<◌, ◌≤◌, Bool, true, false, cond, not, ◌&&◌, ◌||◌, eqb, ltb, leb, ◌⊎◌, List, [], ◌∷◌, length, get_or, Some, None, Option, sym, refl, ap, ◌∙◌, subst, inl, inr, arith}
-use Rattle.std.proofs.lemmas.Bool.{cases_eq, cases_Bool, cond-true, cond-false, true≢false, ltb-true, lt-ltb, leb-true, le-leb, leb-false, not-false, or_cases}
+use Rattle.std.proofs.Common.{◌≡◌, ℕ, suc, ◌<◌, Bool, true, false, ◌&&◌, ◌||◌, ltb, ◌⊎◌, List, get_or, Some, None, Option, sym, refl, ap, ◌∙◌, subst, inl, inr, arith}
+use Rattle.std.proofs.lemmas.Bool.{cases_eq, cases_Bool, cond-true, cond-false, true≢false, ltb-true, lt-ltb, leb-true, not-false, or_cases}
 use Rattle.state.specs.declared.state.State.{State}
 use Rattle.state.specs.declared.update.Update.{Update}
 use Rattle.state.specs.Refusals.{accepted, first}
 use Rattle.ledger.specs.declared.view.Parent.{Parent}
 use Rattle.ledger.specs.Laws.{Lawful, child}
-use Rattle.ledger.specs.Model.{Model, Place, place_at, value_of, Status, shut, idle, posted, settled, status, is_shut, is_settled}
+use Rattle.ledger.specs.Model.{Model, place_at, value_of, Status, shut, idle, posted, settled, status, is_shut, is_settled}
 use Rattle.ledger.specs.Steps.{due_at, post_checks, post_next, settle_checks, settle_next}
 use Rattle.ledger.proofs.Changing.{some_same, none_some}
 use Rattle.ledger.proofs.Keeping.{laws_hold}
 use Rattle.ledger.proofs.Showing.{steps_show}
 use Rattle.eltoo.specs.declared.answer.Counts.{Counts}
 use Rattle.eltoo.specs.Stations.{count, total, newest_at, is_marked, is_idle, is_posted, allotted, allotment_by, allotment}
-use Rattle.eltoo.specs.Rounds.{Tour, is_accepted, one_post, one_settlement, tried, is_behind, wants_post, is_due, wants_settle, tried_post, tried_settle, visit, visits}
-use Rattle.eltoo.proofs.Standings.{four, posted_settled, idle_posted, idle_settled, shut_posted, shut_settled, can_post, can_settle, settle_taken}
+use Rattle.eltoo.specs.Rounds.{Tour, is_accepted, one_post, one_settlement, tried, is_behind, wants_post, is_due, wants_settle, tried_post, tried_settle}
+use Rattle.eltoo.proofs.Standings.{four, posted_settled, idle_posted, idle_settled, can_post, can_settle, settle_taken}
 use Rattle.eltoo.proofs.Moves.{Alike, alike_same, alike_then, post_alike, settle_alike, delay_same, parent_below, SettleWay, itself, opens, stays, settle_way}
-use Rattle.eltoo.proofs.Sound.{state_by, kept, Same, Stale, Sound, sound_post, sound_settle}
+use Rattle.eltoo.proofs.Sound.{state_by, kept, Same, Sound, sound_post, sound_settle}
 
 -- the parent of a place that is not shut is settled
 parent_settled : (m : Model) → Lawful m → (c q i : ℕ) → c < count m → (place_at m c).parent ≡ child q i → is_shut (status m c) ≡ false → is_settled (status m q) ≡ true

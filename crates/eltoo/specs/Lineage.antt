@@ -1,5 +1,4 @@
-use Rattle.std.specs.Prelude.{◌≡◌, ℕ, zero, suc, ◌+◌, ◌<◌, Bool, true, false, ◌||◌, ◌⊎◌, List, [], ◌∷◌, map, length, Some, None, Decides, sum, Option, ◌==◌, slice_index_or}
-use Rattle.ledger.specs.declared.view.Parent.{Parent}
+use Rattle.std.specs.Prelude.{◌≡◌, ℕ, zero, suc, ◌+◌, ◌<◌, Bool, true, false, ◌||◌, ◌⊎◌, List, [], ◌∷◌, map, length, Some, None, Decides, sum, ◌==◌, slice_index_or}
 use Rattle.ledger.specs.Laws.{Laid, child}
 use Rattle.ledger.specs.Model.{Model, Place, nowhere, place_at}
 

@@ -3,7 +3,7 @@ use Rattle.state.specs.declared.state.State.{State}
 use Rattle.account.specs.Accounts.{paid, Conserved}
 use Rattle.account.specs.Sums.{sum_to}
 use Rattle.ledger.specs.Laws.{Lawful, Untouched, has_children}
-use Rattle.ledger.specs.Model.{Model, place_at, Status, settled, status, is_settled}
+use Rattle.ledger.specs.Model.{Model, place_at, settled, status, is_settled}
 use Rattle.eltoo.specs.declared.call.Call.{Call}
 use Rattle.eltoo.specs.declared.call.Call.TheVariants.{Agree, Claim, Post, Settle, Advance, Round}
 use Rattle.eltoo.specs.declared.answer.Answer.{Answer}

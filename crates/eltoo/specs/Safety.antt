@@ -1,13 +1,13 @@
-use Rattle.std.specs.Prelude.{◌≡◌, ℕ, ◌<◌, Bool, true, false, ◌||◌, List, [], ◌∷◌, length}
+use Rattle.std.specs.Prelude.{◌≡◌, ℕ, ◌<◌, false, ◌||◌, List, [], ◌∷◌, length}
 use Rattle.state.specs.declared.state.State.{State}
 use Rattle.ledger.specs.Laws.{Lawful, Untouched}
 use Rattle.seal.specs.Registers.{RowGives}
 use Rattle.seal.specs.Seals.{Seals}
 use Rattle.eltoo.specs.declared.call.Call.{Call}
 use Rattle.eltoo.specs.declared.answer.Answer.{Answer}
-use Rattle.eltoo.specs.Lineage.{LineagesList, lineage, among}
+use Rattle.eltoo.specs.Lineage.{lineage, among}
 use Rattle.eltoo.specs.Stations.{StationModel, is_marked, claim_next}
-use Rattle.eltoo.specs.Steps.{Own, Step}
+use Rattle.eltoo.specs.Steps.{Own}
 use Rattle.eltoo.specs.Runs.{Entry, Run, origin, InTime, SettledNewest, SettledInTime, Holds}
 
 -- No run of any station, over any scheme, breaks what a run holds to.

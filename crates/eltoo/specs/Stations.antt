@@ -1,10 +1,10 @@
-use Rattle.std.specs.Prelude.{◌≡◌, ℕ, zero, suc, Bool, true, false, not, ◌&&◌, ◌||◌, List, [], ◌∷◌, length, replicate, Some, None, sum, Option, ◌==◌, nat_le, nat_lt, slice_index, slice_index_or, slice_set}
+use Rattle.std.specs.Prelude.{ℕ, zero, suc, Bool, true, false, not, ◌&&◌, ◌||◌, List, [], ◌∷◌, length, replicate, Some, None, sum, Option, ◌==◌, nat_le, nat_lt, slice_index, slice_index_or, slice_set}
 use Rattle.state.specs.declared.state.State.{State}
 use Rattle.state.specs.declared.update.Update.{Update}
 use Rattle.ledger.specs.declared.view.Parent.{Parent}
 use Rattle.ledger.specs.Laws.{max_places}
-use Rattle.ledger.specs.Model.{Model, Place, place_at, Status, shut, idle, posted, settled, status, is_settled}
-use Rattle.ledger.specs.Steps.{post_checks, post_next, settle_checks, settle_next, advance_checks, advance_next}
+use Rattle.ledger.specs.Model.{Model, place_at, Status, shut, idle, posted, settled, status, is_settled}
+use Rattle.ledger.specs.Steps.{post_checks}
 use Rattle.seal.specs.Seals.{Seals, signing_checks}
 use Rattle.eltoo.specs.Lineage.{lineage}
 

@@ -1,7 +1,6 @@
 use Rattle.std.specs.Prelude.{◌≡◌, ℕ, Bool, List, Some, slice_set}
 use Rattle.state.specs.declared.state.State.{State}
 use Rattle.state.specs.Refusals.{told, accepted, first}
-use Rattle.ledger.specs.Model.{Model}
 use Rattle.ledger.specs.Steps.{settle_checks, settle_next, advance_checks, advance_next, post_next}
 use Rattle.seal.specs.Seals.{Seals, Gives}
 use Rattle.eltoo.specs.declared.call.Call.{Call}

@@ -1,5 +1,5 @@
 -- The output that a call spends, and a post.
-use Rattle.std.proofs.Common.{◌≡◌, ℕ, ◌+◌, ◌<◌, ◌≤◌, true, false, not, eqb, ltb, List, [], ◌∷◌, map, length, get_or, set, Some, None, sum_by, sum, Option, sym, refl, ap, ◌∙◌, arith}
+use Rattle.std.proofs.Common.{◌≡◌, ℕ, ◌+◌, ◌<◌, ◌≤◌, Bool, true, false, not, eqb, ltb, Ok, List, [], ◌∷◌, map, length, get_or, set, Some, None, sum_by, sum, Option, sym, refl, ap, ◌∙◌, arith}
 use Rattle.std.proofs.lemmas.List.{length-set}
 use Rattle.std.proofs.lemmas.List.Sums.{sum_by-set}
 use Rattle.std.proofs.lemmas.Bool.{eq-eqb, le-leb, and_from}
@@ -7,8 +7,9 @@ use Rattle.state.specs.declared.quantity.Height.{Height}
 use Rattle.state.specs.declared.state.State.{State}
 use Rattle.state.specs.Limits.{min_number, max_number}
 use Rattle.state.specs.Refusals.{refused, first}
-use Rattle.ledger.specs.Model.{Place, Stage, fresh, holds, done, place_at, value_of}
-use Rattle.ledger.specs.Steps.{is_done, not_newer, worth, place_checks, post_stage_checks, settle_stage_checks, post_checks, settle_checks}
+use Rattle.state.proofs.Checking.{passed_over}
+use Rattle.ledger.specs.Model.{Model, Place, Stage, fresh, holds, done, place_at, value_of}
+use Rattle.ledger.specs.Steps.{Does, post_next, is_done, not_newer, worth, place_checks, post_stage_checks, settle_stage_checks, post_checks, settle_checks}
 use Rattle.output_chain.specs.declared.chain.OutputChain.{OutputChain}
 use Rattle.output_chain.specs.declared.output.Output.{Output}
 use Rattle.output_chain.specs.declared.output.Unspent.{Unspent}
@@ -104,3 +105,18 @@ updated c u x since y next l cell total le made replaced =
     let i : in_cell f (get_or c.pool u.cell None) ≡ f (coin_of u.output) = ap (in_cell f) cell.is in
     let b : f (coin_of y) ≡ f (update p v x.number.value x.amounts since.blocks) = ap f (made ∙ ap (λ z. update p z x.number.value x.amounts since.blocks) at.value) in
     omega (arith, r, w, a, i, b))
+
+-- the checks of a post are passed, and it makes what it should
+pub post_does : (m n : Model) (x : State) (o : Output) → ChecksBy m x.place o → sum x.amounts ≡ o.value → not_newer (stage_in o.kind) x.number.value ≡ false → n ≡ post_next m x → Does {A = Unit {0}} (Ok tt) m n (post_checks m x) (post_next m x)
+post_does m n x o by total newer made =
+    let s = stage_in o.kind in
+    let rest : List (Bool × ℕ) = (not_newer s x.number.value, 7) ∷ [] in
+    let sums : not (eqb (sum x.amounts) o.value) ≡ false = ap not (eq-eqb (sum x.amounts) o.value total) in
+    record {
+      answers =
+          sym (by.post x refl
+          ∙ passed_over (is_done s) 5 ((not (eqb (sum x.amounts) o.value), 6) ∷ rest) by.unsettled
+          ∙ passed_over (not (eqb (sum x.amounts) o.value)) 6 rest sums
+          ∙ passed_over (not_newer s x.number.value) 7 [] newer);
+      leaves = made;
+    }

@@ -33,6 +33,7 @@ impl OutputChain {
 impl Host for OutputChain {
     ghost steps = { λ s law. (steps_keep _ law, steps_show _ law) };
 
+    #[tactic(auto, using(crate::proofs::Posts::post_does))]
     fn post(&mut self, state: &State) -> Result<(), Refusal>
         ensures step { Does result (model_of self.old) (model_of self.new) (post_checks (model_of self.old) state.now) (post_next (model_of self.old) state.now) }
         ensures pool { Holds self.new }

@@ -1,4 +1,4 @@
-use Rattle.std.specs.Prelude.{◌≡◌, ℕ, ◌≤◌, Bool, true, List, [], ◌∷◌, ◌==◌, nat_lt}
+use Rattle.std.specs.Prelude.{◌≡◌, ℕ, Bool, true, List, [], ◌∷◌, ◌==◌, nat_lt}
 use Rattle.siphash.specs.Sip.{sip_hash, word_bytes}
 use Rattle.state.specs.declared.state.State.{State}
 use Rattle.state.specs.States.{words}

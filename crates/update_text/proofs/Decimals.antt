@@ -1,5 +1,5 @@
-use Rattle.std.proofs.Common.{◌≡◌, ℕ, zero, suc, ◌+◌, ◌-◌, ◌*◌, ◌/◌, ◌%◌, ◌^◌, ◌<◌, ◌≤◌, List, [], ◌∷◌, ◌++◌, length, get_or, take, drop, decimal, sym, refl, ap, ◌∙◌, ⊎_elim, append_assoc, append-nil, arith, length-append, rules}
-use Rattle.std.proofs.lemmas.List.{drop_all, drop-drop, drop_at, take_at, take_all, length-drop, length-take, length-take-le, get_or-take, get_or_at, get_or_append_left, take-append-drop, append_cancel_left, drop_more, at_drop_more, at_drop_all}
+use Rattle.std.proofs.Common.{◌≡◌, ℕ, zero, suc, ◌+◌, ◌-◌, ◌*◌, ◌^◌, ◌<◌, ◌≤◌, List, [], ◌∷◌, ◌++◌, length, get_or, take, drop, decimal, sym, refl, ap, ◌∙◌, ⊎_elim, append_assoc, arith, length-append, rules}
+use Rattle.std.proofs.lemmas.List.{drop-drop, drop_at, take_at, length-take-le, get_or-take, get_or_at, get_or_append_left, take-append-drop, append_cancel_left, drop_more, at_drop_more, at_drop_all}
 use Rattle.std.proofs.lemmas.Bool.{cases_lt}
 use Rattle.std.specs.Int.{IsInRange}
 use Rattle.std.proofs.lemmas.Str.Parse.{IsNumeralModel, numerals_by_fold, tells_by_index}

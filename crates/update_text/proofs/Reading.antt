@@ -1,5 +1,5 @@
-use Rattle.std.proofs.Common.{◌≡◌, ℕ, zero, suc, ◌+◌, ◌-◌, ◌*◌, ◌^◌, ◌<◌, ◌≤◌, min, ◌⊎◌, List, [], ◌∷◌, ◌++◌, length, get_or, take, drop, Ok, Err, Result, sym, refl, ap, ◌∙◌, subst, inl, inr, ⊎_elim, append_assoc, append-nil, arith}
-use Rattle.std.proofs.lemmas.List.{get_or_append_left, get_or-append_right, get_or_past, length-append, length_push, length-take, same_from_push, drop_more, drop_all, drop-drop, take-append-drop, take_at, drop_at}
+use Rattle.std.proofs.Common.{◌≡◌, ℕ, zero, suc, ◌+◌, ◌-◌, ◌^◌, ◌<◌, ◌≤◌, List, [], ◌∷◌, ◌++◌, length, get_or, take, drop, Ok, Err, Result, sym, refl, ap, ◌∙◌, inl, inr, ⊎_elim, append_assoc, append-nil, arith}
+use Rattle.std.proofs.lemmas.List.{get_or_append_left, get_or-append_right, get_or_past, length_push, length-take, same_from_push, drop_more, drop_all, drop-drop, take-append-drop, take_at, drop_at}
 use Rattle.std.proofs.lemmas.List.Sums.{get_or-le-sum_by}
 use Rattle.std.proofs.lemmas.Bool.{cases_lt, cases_eq}
 use Rattle.std.proofs.lemmas.Bool.Decides.{nat_tests}
@@ -7,12 +7,12 @@ use Rattle.state.specs.declared.raw.RawState.{RawState}
 use Rattle.state.specs.declared.refusal.Refusal.{Refusal}
 use Rattle.state.specs.declared.refusal.Refusal.TheVariants.{BadLine}
 use Rattle.state.specs.declared.update.Update.{Update}
-use Rattle.state.specs.Refusals.{told, answer, first}
-use Rattle.state.specs.States.{words, raw_words, making_checks}
+use Rattle.state.specs.Refusals.{answer, first}
+use Rattle.state.specs.States.{words, making_checks}
 use Rattle.state.proofs.Same.{cons_same, words_same, update_same}
 use Rattle.state.proofs.Accepting.{told_not_accepted, figures_accepted}
 use Rattle.update_text.specs.Line.{lines, keys, Fit, Good, FirstBad, Values}
-use Rattle.update_text.specs.Text.{values_of, raw_values, text_of, Sealed, Because, Made, Reads, written, part, writing_checks, Writes, OneToOne}
+use Rattle.update_text.specs.Text.{values_of, raw_values, text_of, Sealed, Because, Made, Reads, written, part, Writes, OneToOne}
 use Rattle.update_text.proofs.Decimals.{by_le}
 use Rattle.update_text.proofs.Runs.{keys_length, one_run, shorter, fit_take}
 

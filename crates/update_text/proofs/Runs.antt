@@ -1,10 +1,10 @@
-use Rattle.std.proofs.Common.{◌≡◌, ℕ, zero, suc, ◌+◌, ◌-◌, ◌*◌, ◌/◌, ◌%◌, ◌^◌, ◌<◌, ◌≤◌, min, List, [], ◌∷◌, ◌++◌, length, get_or, take, drop, set, replicate, decimal, sym, refl, ap, ◌∙◌, subst, ⊎_elim, append_assoc, append-nil, arith, length-append, rules}
-use Rattle.std.proofs.lemmas.List.{drop_all, drop-drop, take_at, take_all, length-drop, length-take-le, length-take, length-set, get_or_at, get_or_append_left, append_cancel_left, take_more_set, take_rest, get_or-set_same, get_or-set_other, set_past, get_or_past, get_or-take, nil_from_length}
+use Rattle.std.proofs.Common.{◌≡◌, ℕ, zero, suc, ◌+◌, ◌-◌, ◌^◌, ◌<◌, ◌≤◌, List, [], ◌∷◌, ◌++◌, length, get_or, take, drop, set, replicate, decimal, sym, refl, ap, ◌∙◌, ⊎_elim, append_assoc, append-nil, arith, length-append}
+use Rattle.std.proofs.lemmas.List.{drop_all, drop-drop, take_all, length-drop, length-take-le, length-take, length-set, get_or_at, get_or_append_left, append_cancel_left, take_more_set, get_or-set_same, get_or-set_other, get_or_past, get_or-take}
 use Rattle.std.proofs.lemmas.Bool.{cases_lt, cases_eq}
 use Rattle.std.specs.Int.{IsInRange}
 use Rattle.std.proofs.lemmas.Fmt.{digits_decimal}
-use Rattle.update_text.specs.Line.{AllDigits, read_on, line, Begins, lines, keys, Fit, Good, FirstBad, Values}
-use Rattle.update_text.proofs.Decimals.{own, counted, Counted, line_is, by_le}
+use Rattle.update_text.specs.Line.{AllDigits, line, Begins, lines, keys, Fit, FirstBad}
+use Rattle.update_text.proofs.Decimals.{own, counted, line_is}
 
 -- a number and a newline at the front of a text can be read in one way
 one_value : (v w : ℕ) (x y : List ℕ) → v < 2 ^ 64 → w < 2 ^ 64 → decimal v ++ (10 ∷ x) ≡ decimal w ++ (10 ∷ y) → v ≡ w

@@ -1,6 +1,4 @@
-use Prim.Native.Nat.{ℕ, ◌<◌}
-use mathlib.Core.Bool.{false}
-use mathlib.Core.Path.{◌≡◌}
+use Rattle.std.proofs.Common.{◌≡◌, ℕ, ◌<◌, false}
 use Rattle.batch.specs.Batch.{line_starts, empty_line}
 use Rattle.batch.proofs.text_end.Given as goal
 

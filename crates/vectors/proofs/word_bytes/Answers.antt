@@ -15,7 +15,7 @@ joined old new more bytes before after b e ok o m a = cc
 pub loop-w-preserved : goal.loop-w-preserved
 loop-w-preserved c =
     let lt : c.loop-w.w-index < length c.args.words.now = omega arith in
-    joined _ _ _ _ _ _ _ c.extend-from-slice.ensures.items (ap is_ok c.in-ok-extend-from-slice.was) c.loop-w.invariant c.to-le-bytes.ensures (word_bytes_more c.args.words.now c.loop-w.w-index lt)
+    joined _ _ _ _ _ _ _ c.extend_from_slice.ensures.items (ap is_ok c.in_ok-extend_from_slice.was) c.loop-w.invariant c.to_le_bytes.ensures (word_bytes_more c.args.words.now c.loop-w.w-index lt)
 
 pub returns : goal.returns
 returns c =

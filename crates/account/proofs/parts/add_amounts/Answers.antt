@@ -1,9 +1,9 @@
-use Rattle.std.proofs.Common.{◌≡◌, ℕ, ◌+◌, ◌^◌, ◌<◌, ◌≤◌, length, get_or, ap, ◌∙◌, arith, length-set, rules}
+use Rattle.std.proofs.Common.{◌≡◌, ◌+◌, ◌^◌, ◌<◌, length, get_or, ap, ◌∙◌, arith, length-set, rules}
 use Rattle.account.proofs.Parting.{added_below, added_above, added_bound}
 use Rattle.account.proofs.parts.add_amounts.Goals as goal
 
-pub overflow-add-paid : goal.overflow-add-paid
-overflow-add-paid c =
+pub overflow_add-paid : goal.overflow_add-paid
+overflow_add-paid c =
     let i = c.loop-i.i in
     let small : get_or c.args.amounts.now i 0 < 2 ^ 64 = search rules in
     let here = c.loop-i.invariant.2 i (omega arith) in

@@ -4,7 +4,7 @@ use Rattle.output_chain.proofs.Weights.{weigh_more, weigh_all, full_cell}
 use Rattle.output_chain.proofs.cells.free.Goals as goal
 
 pub loop-i-preserved : goal.loop-i-preserved
-loop-i-preserved c = weigh_more each c.args.pool.now c.loop-i.i 1 c.index-pool-i.result c.loop-i-test.true c.index-pool-i.is (full_cell _ c.if-is-none.ensures) ∙ ap (λ n. n + 1) c.loop-i.invariant
+loop-i-preserved c = weigh_more each c.args.pool.now c.loop-i.i 1 c.index-pool-i.result c.loop-i-test.true c.index-pool-i.is (full_cell _ c.if-is_none.ensures) ∙ ap (λ n. n + 1) c.loop-i.invariant
 
 pub returns : goal.returns
 returns c =

@@ -25,7 +25,7 @@ loop-index-preserved c f =
     let k : ℕ → Coin = λ i. payout c.args.place i c.args.number.value (get_or c.args.amounts.now i 0) in
     let i : weigh c.loop-index.pool f ≡ weigh (set c.args.pool.now c.args.at None) f + sum_by f (map k (range_with_len 0 c.loop-index.index)) = c.loop-index.invariant f in
     let m = c.make.ensures f in
-    let o : f (coin_of c.payout-at.result) ≡ f (k c.loop-index.index) = ap f c.payout-at.ensures in
+    let o : f (coin_of c.payout_at.result) ≡ f (k c.loop-index.index) = ap f c.payout_at.ensures in
     let n : sum_by f (map k (range_with_len 0 (c.loop-index.index + 1))) ≡ sum_by f (map k (range_with_len 0 c.loop-index.index)) + f (k c.loop-index.index) = sum_by-map-range_with_len_more f k 0 c.loop-index.index c.loop-index.index (omega arith) in
     omega (arith, i, m, n, o)
 

@@ -10,7 +10,7 @@ loop-i-preserved c =
     let i = c.loop-i.i in
     let v = c.loop-i.invariant in (
       length-set made i _ ∙ v.0,
-      more_made blocks_of (delay_made c.args.good) made c.args.given.now i _ (omega (arith, v.0)) (search rules) v.1 c.delay-made.ensures,
+      more_made blocks_of (delay_made c.args.good) made c.args.given.now i _ (omega (arith, v.0)) (search rules) v.1 c.delay_made.ensures,
     )
 
 pub returns : goal.returns

@@ -1,5 +1,4 @@
-use Rattle.std.proofs.Common.{◌≡◌, ◌+◌, ◌-◌, ◌*◌, ◌<◌, ◌≤◌, length, get_or, drop, sym, ◌∙◌, arith, rules}
-use Rattle.update_text.specs.Line.{read_on}
+use Rattle.std.proofs.Common.{◌+◌, ◌*◌, drop, sym, ◌∙◌, arith, rules}
 use Rattle.update_text.proofs.Decimals.{read_on_ge, digit_step, digit_all}
 use Rattle.update_text.proofs.parse.number.Goals as goal
 

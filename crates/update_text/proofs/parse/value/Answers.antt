@@ -1,4 +1,4 @@
-use Rattle.std.proofs.Common.{◌≡◌, ℕ, ◌+◌, ◌<◌, ◌≤◌, length, get_or, take, arith, rules}
+use Rattle.std.proofs.Common.{◌≡◌, ℕ, ◌<◌, get_or, arith, rules}
 use mathlib.Core.Path.{subst⁻¹}
 use Rattle.update_text.specs.Line.{ReadsValue}
 use Rattle.std.proofs.lemmas.List.{get_or-take, length-take-le}
@@ -19,30 +19,30 @@ number-requires c = λ i h.
     let d = c.digits-count.ensures.all i l in
     (omega arith, omega arith)
 
-pub returns-then-leading-zero : goal.returns-then-leading-zero
-returns-then-leading-zero c = λ v rest h.
+pub returns-then-leading_zero : goal.returns-then-leading_zero
+returns-then-leading_zero c = λ v rest h.
     let bs = c.args.src.now in
     let r = c.digits-count.result in
     let k = counted bs rest v r h.0 h.1 c.digits-count.ensures.within c.digits-count.ensures.all c.digits-count.ensures.next in
-    let z = lead_in bs r k.some c.digits-count.ensures.within (c.leading-zero.ensures.0 c.if-leading-zero.true) in
+    let z = lead_in bs r k.some c.digits-count.ensures.within (c.leading_zero.ensures.0 c.if-leading_zero.true) in
     k.plain z.0 z.1
 
-pub returns-in-err-value : goal.returns-in-err-value
-returns-in-err-value c = subst⁻¹ (ReadsValue c.args.src.now) c.from-residual.ensures (λ v rest h.
+pub returns-in_err-value : goal.returns-in_err-value
+returns-in_err-value c = subst⁻¹ (ReadsValue c.args.src.now) c.from_residual.ensures (λ v rest h.
     let k = counted c.args.src.now rest v c.digits-count.result h.0 h.1 c.digits-count.ensures.within c.digits-count.ensures.all c.digits-count.ensures.next in
-    omega (arith, c.in-err-value.ensures, k.reads, h.0))
+    omega (arith, c.in_err-value.ensures, k.reads, h.0))
 
 pub returns : goal.returns
 returns c =
     let r = c.digits-count.result in
     let bs = c.args.src.now in
-    let fits : c.in-ok-value.value < 18446744073709551616 = search rules in
+    let fits : c.in_ok-value.value < 18446744073709551616 = search rules in
     let some : 0 < r = search rules in
     let plain : 1 < r → get_or bs 0 0 ≡ 48 → ⊥ = λ l z.
-    let t = c.leading-zero.ensures.1 (lead_out bs r some c.digits-count.ensures.within l z) in
-    let f = c.if-leading-zero.false in
+    let t = c.leading_zero.ensures.1 (lead_out bs r some c.digits-count.ensures.within l z) in
+    let f = c.if-leading_zero.false in
     let clash : ◌≡◌ {A = ℕ} 0 1 = cc in
     omega arith in (
       search rules,
-      found bs c.in-ok-value.value r c.digits-count.ensures.all some (search rules) (search rules) plain c.in-ok-value.ensures fits,
+      found bs c.in_ok-value.value r c.digits-count.ensures.all some (search rules) (search rules) plain c.in_ok-value.ensures fits,
     )

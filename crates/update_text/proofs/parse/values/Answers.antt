@@ -1,6 +1,6 @@
-use Rattle.std.proofs.Common.{◌≡◌, ◌≤◌, length, refl, arith, rules}
+use Rattle.std.proofs.Common.{length, refl, arith, rules}
 use Rattle.std.proofs.lemmas.List.{take_rest}
-use Rattle.update_text.specs.Line.{Fit, keys}
+use Rattle.update_text.specs.Line.{keys}
 use Rattle.update_text.proofs.Runs.{line_more, line_bad, all_lines, more_bytes, no_more, fit_zeros}
 use Rattle.update_text.proofs.parse.values.Goals as goal
 

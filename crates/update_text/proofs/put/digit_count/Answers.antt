@@ -1,9 +1,9 @@
-use Rattle.std.proofs.Common.{◌/◌, ◌^◌, ◌<◌, ◌≤◌, arith, rules}
+use Rattle.std.proofs.Common.{◌^◌, ◌<◌, arith, rules}
 use Rattle.update_text.proofs.Placing.{len_one, len_step, len_most}
 use Rattle.update_text.proofs.put.digit_count.Goals as goal
 
-pub overflow-add-count : goal.overflow-add-count
-overflow-add-count c =
+pub overflow_add-count : goal.overflow_add-count
+overflow_add-count c =
     let f : c.args.n < 2 ^ 64 = search rules in
     let m = len_most c.args.n f in
     omega arith

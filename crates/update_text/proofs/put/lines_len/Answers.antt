@@ -1,4 +1,4 @@
-use Rattle.std.proofs.Common.{◌≡◌, ◌+◌, ◌^◌, ◌<◌, ◌≤◌, length, get_or, refl, ap, ◌∙◌, arith, rules}
+use Rattle.std.proofs.Common.{◌≤◌, length, refl, ap, ◌∙◌, arith, rules}
 use Rattle.std.proofs.lemmas.List.{take_all}
 use Rattle.update_text.specs.Line.{lines, keys}
 use Rattle.update_text.proofs.Writing.{next_line, key_short}
@@ -15,7 +15,7 @@ loop-i-preserved c =
     let n = next_line vs c.key.result.now i (search rules) (search rules) c.key.ensures in
     let k = key_short i in
     let kl = ap length n.is in
-    let d = c.digit-count.ensures in
+    let d = c.digit_count.ensures in
     (omega arith, omega arith)
 
 pub returns : goal.returns

@@ -1,9 +1,9 @@
-use Rattle.std.proofs.Common.{◌≡◌, ◌+◌, ◌-◌, ◌/◌, ◌%◌, ◌^◌, ◌<◌, ◌≤◌, ◌++◌, length, drop, set, decimal, ap, ◌∙◌, arith, length-set, rules}
+use Rattle.std.proofs.Common.{◌≡◌, ◌+◌, ◌-◌, ◌/◌, ◌%◌, ◌^◌, ◌<◌, ◌++◌, length, drop, set, decimal, ap, ◌∙◌, arith, length-set, rules}
 use Rattle.update_text.proofs.Placing.{len_one, len_step, len_some, put_step, put_first, put_none}
 use Rattle.update_text.proofs.put.put_decimal.Goals as goal
 
-pub overflow-sub-at : goal.overflow-sub-at
-overflow-sub-at c =
+pub overflow_sub-at : goal.overflow_sub-at
+overflow_sub-at c =
     let f : c.args.n < 2 ^ 64 = search rules in
     let s = len_some c.args.n f in
     omega arith
@@ -15,8 +15,8 @@ loop-rest-init c =
     let k = length c.args.out.now - 1 + 1 in
     (omega arith, omega arith, omega arith, put_none c.args.n k c.args.out.now (omega arith))
 
-pub overflow-sub-at-in-loop-rest : goal.overflow-sub-at-in-loop-rest
-overflow-sub-at-in-loop-rest c =
+pub overflow_sub-at-in-loop-rest : goal.overflow_sub-at-in-loop-rest
+overflow_sub-at-in-loop-rest c =
     let f : c.args.n < 2 ^ 64 = search rules in
     let r : c.loop-rest.rest < 2 ^ 64 = omega arith in
     let s = len_step c.loop-rest.rest (omega arith) r in

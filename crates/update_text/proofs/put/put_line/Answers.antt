@@ -9,11 +9,11 @@ returns c =
     let old = c.args.out.now in
     let key = c.args.key.now in
     let ds = decimal c.args.value in
-    let a = c.put-bytes-a.result in
-    let b = c.put-number.result in
-    let one = then_more old c.put-bytes-a.new.out c.put-number.new.out key ds a b c.put-bytes-a.ensures.len c.put-number.ensures.len c.put-bytes-a.ensures.after c.put-number.ensures.after in
-    let l : a + b ≡ length (key ++ ds) = omega (arith, length-append key ds, c.put-bytes-a.ensures.len, c.put-number.ensures.len) in
+    let a = c.put_bytes-a.result in
+    let b = c.put_number.result in
+    let one = then_more old c.put_bytes-a.new.out c.put_number.new.out key ds a b c.put_bytes-a.ensures.len c.put_number.ensures.len c.put_bytes-a.ensures.after c.put_number.ensures.after in
+    let l : a + b ≡ length (key ++ ds) = omega (arith, length-append key ds, c.put_bytes-a.ensures.len, c.put_number.ensures.len) in
     record {
-      len = omega (arith, c.put-bytes-a.ensures.len, c.put-number.ensures.len, c.put-bytes.ensures.len);
-      after = then_more old _ c.put-bytes.new.out (key ++ ds) (10 ∷ []) (a + b) c.put-bytes.result l c.put-bytes.ensures.len one c.put-bytes.ensures.after;
+      len = omega (arith, c.put_bytes-a.ensures.len, c.put_number.ensures.len, c.put_bytes.ensures.len);
+      after = then_more old _ c.put_bytes.new.out (key ++ ds) (10 ∷ []) (a + b) c.put_bytes.result l c.put_bytes.ensures.len one c.put_bytes.ensures.after;
     }

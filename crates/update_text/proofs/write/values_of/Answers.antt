@@ -1,4 +1,4 @@
-use Rattle.std.proofs.Common.{◌≡◌, ℕ, ◌+◌, List, [], ◌∷◌, ◌++◌, length, set, ap, ◌∙◌, arith}
+use Rattle.std.proofs.Common.{◌≡◌, ℕ, List, [], ◌∷◌, ◌++◌, length, set, ap, ◌∙◌, arith}
 use Rattle.std.proofs.lemmas.List.{set_at}
 use Rattle.state.specs.States.{words}
 use Rattle.update_text.specs.Line.{lines, keys}
@@ -11,7 +11,7 @@ unfolding text_of
 returns c =
     let s = c.args.update.state in
     let seal = c.args.update.seal in
-    let w : c.copy-from-slice.new.self ≡ words s = cc in
+    let w : c.copy_from_slice.new.self ≡ words s = cc in
     let l : length (words s) ≡ 10 = omega (arith, s.long) in
     record {
       text = ap (λ (xs : List ℕ). lines keys (set (xs ++ (0 ∷ [])) 10 seal)) w ∙ ap (lines keys) (set_at (words s) 0 [] seal 10 l);

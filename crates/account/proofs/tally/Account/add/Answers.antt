@@ -1,4 +1,4 @@
-use Rattle.std.proofs.Common.{◌+◌, ◌*◌, ◌^◌, ◌<◌, ◌≤◌, refl, arith, rules}
+use Rattle.std.proofs.Common.{◌^◌, ◌<◌, refl, arith, rules}
 use Rattle.account.specs.Accounts.{paid_at, standing_at}
 use Rattle.account.proofs.Summing.{sum_step}
 use Rattle.account.proofs.tally.Account.add.Goals as goal
@@ -9,9 +9,9 @@ returns g c =
     let n = c.args.place in
     let so_far = c.requires.sums in
     let bound = c.requires.bounded in
-    let part = c.part-of-part.ensures in
-    let added = c.add-amounts.ensures in
-    let small : c.part-of-part.result.standing < 2 ^ 64 = search rules in
+    let part = c.part_of-part.ensures in
+    let added = c.add_amounts.ensures in
+    let small : c.part_of-part.result.standing < 2 ^ 64 = search rules in
     let stood = bound.standing in
     record {
       sums = record {

@@ -7,11 +7,11 @@ pay-requires c =
     let s = c.args.self.now in
     (c.requires.spent.there, (full_here s c.args.place c.requires.place c.args.spent c.requires.spent, room_left s c.args.place c.requires.place c.args.spent c.requires.spent))
 
-pub invariant-of-self : goal.invariant-of-self
-invariant-of-self c =
+pub invariant_of-self : goal.invariant_of-self
+invariant_of-self c =
     let n = paid_out c.args.self.now c.args.place c.requires.place c.args.spent c.requires.spent c.args.posted.now c.pay.new.pool c.requires.shows c.pay.auto.pool c.pay.ensures in
     let k = n.kept in
-    (k.waits, (k.values, (k.room, (k.capped, (n.pooled, (k.backed, tt))))))
+    record { waits = k.waits; values = k.values; room = k.room; capped = k.capped; pooled = n.pooled; backed = k.backed }
 
 pub returns : goal.returns
 returns c =

@@ -11,6 +11,6 @@ returns c =
     let f = c.in-Some.ensures in
     let is = (spent_here s.pool s.fundings (stage_of (weigh s.pool)) c.args.place c.in-Some.at c.read.result (exact s) c.requires f.0 f.1 c.read.ensures).stage in
     record {
-      status = c.standing-of.ensures.status ∙ ap (status_by (Some 0)) is;
-      amounts = c.standing-of.ensures.amounts ∙ ap (λ (x : Stage). shown_amounts (status_by (Some 0) x)) is;
+      status = c.standing_of.ensures.status ∙ ap (status_by (Some 0)) is;
+      amounts = c.standing_of.ensures.amounts ∙ ap (λ (x : Stage). shown_amounts (status_by (Some 0) x)) is;
     }

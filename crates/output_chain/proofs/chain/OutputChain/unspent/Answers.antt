@@ -4,8 +4,8 @@ use Rattle.output_chain.specs.Coins.{in_cell, own, spend}
 use Rattle.output_chain.proofs.Posts.{all_settled, checks_by}
 use Rattle.output_chain.proofs.chain.OutputChain.unspent.Goals as goal
 
-pub returns-in-default : goal.returns-in-default
-returns-in-default c = all_settled c.args.self.now c.args.place c.requires c.in-default.ensures
+pub returns-in_default : goal.returns-in_default
+returns-in_default c = all_settled c.args.self.now c.args.place c.requires c.in_default.ensures
 
 pub returns : goal.returns
 returns c =
