@@ -1,12 +1,12 @@
 -- Runs over a register, played from a list of calls that are all accepted.
-use Rattle.std.proofs.Common.{◌≡◌, ℕ, zero, suc, ◌+◌, ◌<◌, ◌≤◌, Bool, true, false, ◌&&◌, ltb, leb, List, [], ◌∷◌, ◌++◌, map, length, set, Some, Option, sym, refl, ap, ◌∙◌, subst, arith}
+use Rattle.std.proofs.Common.{◌≡◌, ℕ, Bool, true, ◌&&◌, ltb, leb, List, [], ◌∷◌, ◌++◌, length, set, Some, Option, refl, arith}
 use Rattle.std.proofs.lemmas.Bool.{ltb-true, leb-true}
 use Rattle.std.proofs.lemmas.Bool.Decides.{nat_tests}
 use Rattle.state.specs.declared.state.State.{State}
 use Rattle.state.specs.declared.update.Update.{Update}
-use Rattle.state.specs.Refusals.{accepted, first}
+use Rattle.state.specs.Refusals.{first}
 use Rattle.ledger.specs.Model.{Model}
-use Rattle.ledger.specs.Steps.{post_checks, post_next, settle_checks, settle_next, advance_checks, advance_next}
+use Rattle.ledger.specs.Steps.{post_next, settle_checks, settle_next, advance_checks, advance_next}
 use Rattle.seal.specs.Registers.{row_seals, RowGives}
 use Rattle.seal.proofs.Filling.{row_signs}
 use Rattle.eltoo.specs.declared.answer.Answer.{Answer}
@@ -15,8 +15,8 @@ use Rattle.eltoo.specs.declared.call.Call.{Call}
 use Rattle.eltoo.specs.declared.call.Call.TheVariants.{Agree, Claim, Post, Settle, Advance, Round}
 use Rattle.eltoo.specs.Lineage.{lineage}
 use Rattle.eltoo.specs.Rounds.{is_accepted, whole_round}
-use Rattle.eltoo.specs.Runs.{Entry, Begins, Run, origin, risen, Gaps}
-use Rattle.eltoo.specs.Stations.{StationModel, means, agree_checks, claim_checks, sealed_post_checks, with_ledger, mark_each}
+use Rattle.eltoo.specs.Runs.{Entry, Begins, Run, risen, Gaps}
+use Rattle.eltoo.specs.Stations.{StationModel, means, agree_checks, claim_checks, sealed_post_checks, mark_each}
 use Rattle.eltoo.specs.Steps.{Step}
 use Rattle.eltoo.proofs.Following.{accepted_first}
 

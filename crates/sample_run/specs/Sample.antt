@@ -1,6 +1,5 @@
 use Rattle.std.specs.Prelude.{◌≡◌, ℕ, ◌+◌, ◌<◌, true, List, [], ◌∷◌, map, reverse, replicate, Some, refl}
 use Rattle.std.proofs.Common.{lit≤}
-use Rattle.state.specs.declared.quantity.StateNumber.{StateNumber}
 use Rattle.state.specs.declared.state.State.{State}
 use Rattle.ledger.specs.declared.setup.SetUp.{SetUp}
 use Rattle.ledger.specs.Model.{Model, settled, status, is_settled}

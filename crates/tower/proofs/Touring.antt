@@ -1,14 +1,13 @@
 -- One visit more of a round.
-use Rattle.std.proofs.Common.{◌≡◌, ℕ, ◌+◌, ◌*◌, ◌<◌, ◌≤◌, Bool, List, length, Some, None, Option, sym, refl, ap, ◌∙◌, subst, add-one, arith}
+use Rattle.std.proofs.Common.{◌≡◌, ℕ, ◌+◌, ◌*◌, Bool, List, Some, None, Option, sym, refl, ap, ◌∙◌, subst, add-one, arith}
 use Rattle.std.proofs.lemmas.List.{length-set}
 use Rattle.std.proofs.lemmas.Bool.{cond_both}
-use Rattle.state.specs.declared.state.State.{State}
 use Rattle.state.specs.declared.update.Update.{Update}
 use Rattle.state.specs.Refusals.{first}
 use Rattle.ledger.specs.Model.{Model, place_at}
 use Rattle.ledger.specs.Steps.{staged, posted_stage, settled_stage, post_checks, post_next, settle_checks, settle_next}
 use Rattle.eltoo.specs.declared.answer.Counts.{Counts}
-use Rattle.eltoo.specs.Rounds.{Tour, is_accepted, one_post, one_settlement, one_refusal, tried, wants_post, wants_settle, tried_post, tried_settle, visit, visits, starting}
+use Rattle.eltoo.specs.Rounds.{Tour, is_accepted, one_post, one_settlement, tried, wants_post, wants_settle, tried_post, tried_settle, visit, visits, starting}
 use Rattle.eltoo.specs.Stations.{count, newest_at}
 use Rattle.tower.specs.Tours.{toured, Few, Midway}
 

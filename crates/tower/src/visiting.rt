@@ -84,10 +84,9 @@ impl Tower {
 
     // The visit of the next place of a round, which began at some ledger.
     pub(crate) fn visit_next<B: Host>(&self, host: &mut B, place: usize, counts: &mut Counts)
-        ghost m: { Model }
         requires within { place < length (B.Ledger.model host.old).places }
-        requires midway { Midway self.now.marks self.now.newest m place (B.Ledger.model host.old) counts.old }
-        ensures { Midway self.now.marks self.now.newest m (place + 1) (B.Ledger.model host.new) counts.new }
+        requires few { Few counts.old (2 * place) }
+        ensures { (m : Model) → Midway self.now.marks self.now.newest m place (B.Ledger.model host.old) counts.old → Midway self.now.marks self.now.newest m (place + 1) (B.Ledger.model host.new) counts.new }
     {
         self.visit(host, place, counts);
     }

@@ -1,4 +1,4 @@
-use Rattle.std.proofs.Common.{◌≡◌, ◌<◌, List, length, get_or, take, sym, refl, ◌∙◌, subst, arith}
+use Rattle.std.proofs.Common.{◌<◌, List, length, get_or, take, sym, refl, ◌∙◌, subst, arith}
 use lib.Seq.{map-set_same}
 use Rattle.std.proofs.lemmas.List.{take_more_set, take_all}
 use Rattle.eltoo.specs.declared.turn.Turn.{Turn}

@@ -1,6 +1,6 @@
-use Rattle.std.proofs.Common.{◌≡◌, subst}
+use Rattle.std.proofs.Common.{subst}
 use Rattle.eltoo.specs.Lists.{Performs, WholeRun}
-use Rattle.eltoo.specs.Stations.{StationModel, set_up}
+use Rattle.eltoo.specs.Stations.{StationModel}
 use Rattle.eltoo.proofs.Performing.{whole_run}
 use Rattle.station.specs.Meaning.{meant}
 use Rattle.runs.proofs.performing.run.Goals as goal
@@ -8,10 +8,10 @@ use Rattle.runs.proofs.performing.run.Goals as goal
 pub returns : goal.returns
 returns g c =
     let own = g.S.Scheme.gives in
-    let s = meant g.B.Ledger.model g.S.Scheme.seals c.set-up-station.result in
+    let s = meant g.B.Ledger.model g.S.Scheme.seals c.set_up-station.result in
     let t = meant g.B.Ledger.model g.S.Scheme.seals c.perform.new.station in
     let ts = c.perform.new.turns in
-    let start = c.set-up-station.ensures in
+    let start = c.set_up-station.ensures in
     let done = c.perform.ensures.performed in
     record {
       calls = c.perform.ensures.calls;

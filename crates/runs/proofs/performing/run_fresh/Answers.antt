@@ -1,5 +1,5 @@
-use Rattle.std.proofs.Common.{◌≡◌, List, [], refl, ap, subst}
-use Rattle.seal.specs.Registers.{signed, row_seals, register_meaning, RowGives}
+use Rattle.std.proofs.Common.{◌≡◌, [], refl, ap, subst}
+use Rattle.seal.specs.Registers.{row_seals, register_meaning, RowGives}
 use Rattle.seal.specs.Seals.{Seals}
 use Rattle.eltoo.specs.Lists.{Performs, WholeRun}
 use Rattle.eltoo.specs.Stations.{set_up}
