@@ -35,8 +35,8 @@ one_refusal c = record { posts = c.posts; settlements = c.settlements; refusals 
 
 -- a call of the host in a round: the ledger that it makes and one more of its sort, or one refusal more
 abbrev pub tried : List (Bool × ℕ) → Model → (Counts → Counts) → Tour → Tour
-tried checks next onMore w =
-    cond (is_accepted (first checks)) (record { ledger = next; counts = onMore w.counts }) (record { ledger = w.ledger; counts = one_refusal w.counts })
+tried checks next on_more w =
+    cond (is_accepted (first checks)) (record { ledger = next; counts = on_more w.counts }) (record { ledger = w.ledger; counts = one_refusal w.counts })
 
 -- posted with a lower number
 abbrev pub is_behind : Status → ℕ → Bool

@@ -2,9 +2,9 @@
 #![tactic(auto)]
 
 ghost use Rattle.std.specs.Prelude.{◌≡◌};
-ghost use Rattle.factory.specs.Factories.{model_of as factoryModel};
+ghost use Rattle.factory.specs.Factories.{model_of as factory_model};
 ghost use Rattle.ledger.specs.Laws.{Lawful, Untouched};
-ghost use Rattle.output_chain.specs.Chains.{model_of as chainModel};
+ghost use Rattle.output_chain.specs.Chains.{model_of as chain_model};
 ghost use Rattle.sample_run.specs.Sample.{sample_ledger, SampleRun};
 
 use factory::factory::Factory;
@@ -13,18 +13,18 @@ use output_chain::chain::OutputChain;
 
 // There is such a run from a station over this host.
 fn exists(host: &Factory<OutputChain>)
-    requires model { factoryModel chainModel host.now ≡ sample_ledger }
-    requires lawful { Lawful (factoryModel chainModel host.now) }
-    requires untouched { Untouched (factoryModel chainModel host.now) }
+    requires model { factory_model chain_model host.now ≡ sample_ledger }
+    requires lawful { Lawful (factory_model chain_model host.now) }
+    requires untouched { Untouched (factory_model chain_model host.now) }
     ensures { SampleRun }
 {}
 
 // The host of the sample run: an output chain whose first root has 1,500, every delay 4, with a factory over that root.
 // From a station over it and an empty register, the run of the sample meets every premise.
 pub fn sample_host() -> Factory<OutputChain>
-    ensures model { factoryModel chainModel result ≡ sample_ledger }
-    ensures lawful { Lawful (factoryModel chainModel result) }
-    ensures untouched { Untouched (factoryModel chainModel result) }
+    ensures model { factory_model chain_model result ≡ sample_ledger }
+    ensures lawful { Lawful (factory_model chain_model result) }
+    ensures untouched { Untouched (factory_model chain_model result) }
     ensures exists { SampleRun }
 {
     let setup = SetUp {

@@ -1,4 +1,4 @@
-use Rattle.std.specs.Prelude.{ℕ, cond, List, eqb}
+use Rattle.std.specs.Prelude.{ℕ, cond, List, ◌==◌}
 use Rattle.siphash.specs.Sip.{sip_hash, word_bytes}
 use Rattle.state.specs.declared.raw.RawState.{RawState}
 use Rattle.state.specs.Refusals.{first}
@@ -14,4 +14,4 @@ answer_number x = (first (making_checks x)).0
 
 -- the tag afterwards: that of the figures, and as it was where no state is made of them
 abbrev pub tag_after : ℕ → ℕ → RawState → ℕ → ℕ
-tag_after k0 k1 x before = cond (eqb (answer_number x) 0) (sip_hash k0 k1 (word_bytes (raw_words x))) before
+tag_after k0 k1 x before = cond (answer_number x == 0) (sip_hash k0 k1 (word_bytes (raw_words x))) before
