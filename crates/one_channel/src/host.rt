@@ -4,8 +4,8 @@ ghost use Rattle.ledger.specs.SetUps.{open_root};
 ghost use Rattle.one_channel.specs.Channels.{model_of};
 ghost use Rattle.state.specs.Limits.{max_total};
 ghost use Rattle.state.specs.Refusals.{answer, first};
-ghost use Rattle.std.proofs.Common.{rules, arith};
-ghost use Rattle.ledger.proofs.Keeping.{steps_keep};
+ghost use Rattle.std.proofs.Common.{rules};
+ghost use Rattle.ledger.proofs.Keeping.{laws_hold, steps_keep};
 ghost use Rattle.ledger.proofs.Showing.{steps_show};
 
 use crate::channel::OneChannel;
@@ -21,9 +21,9 @@ use state::state::State;
 impl Ledger for OneChannel {
     ghost model = { model_of };
 
-    ghost laid = { first_of (Prim.search rules, Prim.grind (arith, Self.row.coded.inj)) };
+    ghost laid = { Prim.search rules };
 
-    ghost two = { first_of (Prim.search rules, Prim.grind (arith, Self.row.coded.inj)) };
+    ghost two = { λ s law. laws_hold _ law };
 
     fn height(&self) -> Height {
         self.height // the present one
