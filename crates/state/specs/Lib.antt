@@ -1,3 +1,4 @@
 pub mod Limits
+pub mod Names
 pub mod Refusals
 pub mod States

@@ -1,7 +1,7 @@
 ghost use Rattle.std.specs.Prelude.{◌≡◌, ◌≤◌, ◌∷◌, sum};
 ghost use Rattle.state.specs.Limits.{max_place, max_total};
 ghost use Rattle.state.specs.Refusals.{answer, first, Leaves};
-ghost use Rattle.state.specs.States.{words, raw_words, making_checks, blank_words};
+ghost use Rattle.state.specs.States.{words, raw_words, making_checks, blank_words, Makes};
 
 use crate::quantity::StateNumber;
 use crate::raw::RawState;
@@ -16,16 +16,23 @@ pub const MAX_PLACE: u64 = 63;
 
 pub const MAX_TOTAL: u64 = 2_100_000_000_000_000;
 
-// The state of figures that are within the limits.
-fn within_limits(place: usize, number: StateNumber, amounts: [u64; 8]) -> State
-    requires place { place ≤ max_place }
-    requires total { sum amounts ≤ max_total }
-    ensures { words result ≡ place ∷ number.value ∷ amounts }
-{
-    State {
-        place,
-        number,
-        amounts,
+// The state of raw figures, if they are within the limits.
+impl TryFrom<RawState> for State {
+    type Error = Refusal;
+
+    ghost try_from_gives = { Makes };
+
+    fn try_from(raw: RawState) -> Result<State, Refusal> {
+        if raw.place > MAX_PLACE {
+            return Err(Refusal::NoSuchPlace);
+        }
+        let number = StateNumber::new(raw.number).ok_or(Refusal::BadNumber)?;
+        sum_within(&raw.amounts, MAX_TOTAL).ok_or(Refusal::OverLimit)?;
+        Ok(State {
+            place: raw.place as usize,
+            number,
+            amounts: raw.amounts,
+        })
     }
 }
 
@@ -46,16 +53,7 @@ impl State {
         ensures answer { answer result ≡ first (making_checks raw) }
         ensures after { Leaves result self.old self.new (λ _. words self.new ≡ raw_words raw) }
     {
-        if raw.place > MAX_PLACE {
-            return Err(Refusal::NoSuchPlace);
-        }
-        let Some(number) = StateNumber::new(raw.number) else {
-            return Err(Refusal::BadNumber);
-        };
-        let Some(_) = sum_within(&raw.amounts, MAX_TOTAL) else {
-            return Err(Refusal::OverLimit);
-        };
-        *self = within_limits(raw.place as usize, number, raw.amounts);
+        *self = State::try_from(raw)?;
         Ok(())
     }
 
@@ -63,10 +61,7 @@ impl State {
     pub fn total(&self) -> u64
         ensures { result ≡ sum self.now.amounts }
     {
-        match sum_within(&self.amounts, MAX_TOTAL) {
-            Some(total) => total,
-            None => unreachable(),
-        }
+        sum_within(&self.amounts, MAX_TOTAL).unwrap()
     }
 
     // The words of the state, in the order in which they are sealed and written.

@@ -12,14 +12,14 @@ pub const MIN_NUMBER: u32 = 1;
 pub const MAX_NUMBER: u32 = 1_000_000_000;
 
 // A block height of a ledger.
-#[derive(Clone, Copy)]
+#[derive(Clone, Copy, PartialEq, Eq, PartialOrd, Ord)]
 pub struct Height {
     pub blocks: u32,
     ghost high: { blocks ≤ max_height },
 }
 
 // How many blocks a posted state waits until it can be settled.
-#[derive(Clone, Copy)]
+#[derive(Clone, Copy, PartialEq, Eq, PartialOrd, Ord)]
 pub struct Delay {
     pub blocks: u32,
     ghost low: { min_delay ≤ blocks },
@@ -27,11 +27,21 @@ pub struct Delay {
 }
 
 // The number of a state: of two states of a place, the one with the higher number is the newer.
-#[derive(Clone, Copy)]
+#[derive(Clone, Copy, PartialEq, Eq, PartialOrd, Ord)]
 pub struct StateNumber {
     pub value: u32,
     ghost low: { min_number ≤ value },
     ghost high: { value ≤ max_number },
+}
+
+// The figure as a 32-bit number, if it is from `LOW` to `HIGH`.
+fn within<const LOW: u32, const HIGH: u32>(figure: u64) -> Option<u32>
+    ensures { MatchOption result (LOW ≤ figure → HIGH < figure) (λ n. (n ≡ figure) × ((LOW ≤ n) × (n ≤ HIGH))) }
+{
+    if figure < LOW as u64 || figure > HIGH as u64 {
+        return None;
+    }
+    Some(figure as u32)
 }
 
 impl Height {
@@ -39,12 +49,8 @@ impl Height {
     pub fn new(blocks: u64) -> Option<Height>
         ensures { MatchOption result (max_height < blocks) (λ h. h.blocks ≡ blocks) }
     {
-        if blocks > MAX_HEIGHT as u64 {
-            return None;
-        }
-        Some(Height {
-            blocks: blocks as u32,
-        })
+        let blocks = within::<0, MAX_HEIGHT>(blocks)?;
+        Some(Height { blocks })
     }
 }
 
@@ -53,12 +59,8 @@ impl Delay {
     pub fn new(blocks: u64) -> Option<Delay>
         ensures { MatchOption result (min_delay ≤ blocks → max_delay < blocks) (λ d. d.blocks ≡ blocks) }
     {
-        if blocks < MIN_DELAY as u64 || blocks > MAX_DELAY as u64 {
-            return None;
-        }
-        Some(Delay {
-            blocks: blocks as u32,
-        })
+        let blocks = within::<MIN_DELAY, MAX_DELAY>(blocks)?;
+        Some(Delay { blocks })
     }
 }
 
@@ -67,11 +69,7 @@ impl StateNumber {
     pub fn new(value: u64) -> Option<StateNumber>
         ensures { MatchOption result (min_number ≤ value → max_number < value) (λ n. n.value ≡ value) }
     {
-        if value < MIN_NUMBER as u64 || value > MAX_NUMBER as u64 {
-            return None;
-        }
-        Some(StateNumber {
-            value: value as u32,
-        })
+        let value = within::<MIN_NUMBER, MAX_NUMBER>(value)?;
+        Some(StateNumber { value })
     }
 }

@@ -1,9 +1,13 @@
-ghost use Rattle.std.specs.Prelude.{◌≡◌};
+ghost use Rattle.std.specs.Prelude.{◌≡◌, Some};
 ghost use Rattle.std.specs.Option.{option_to_list};
+ghost use Rattle.state.specs.Names.{named};
 ghost use Rattle.state.specs.Refusals.{told};
 
+use std::error::Error;
+use std::fmt;
+
 // Why a call was refused. A refused call changes nothing, save that a key record handed in is wiped.
-#[derive(Clone, Copy, Debug)]
+#[derive(Clone, Copy, Debug, PartialEq, Eq)]
 pub enum Refusal {
     NoSuchPlace,
     BadNumber,
@@ -28,12 +32,12 @@ pub enum Refusal {
     BadSetUp,
 }
 
-impl Refusal {
-    // The number by which a caller knows the refusal.
-    pub fn number(self) -> u8
-        ensures { result ≡ (told self).0 }
-    {
-        match self {
+// The number by which a caller knows a refusal.
+impl From<Refusal> for u8 {
+    ghost from_gives = { λ refusal number. number ≡ (told refusal).0 };
+
+    fn from(refusal: Refusal) -> u8 {
+        match refusal {
             Refusal::NoSuchPlace => 1,
             Refusal::BadNumber => 2,
             Refusal::OverLimit => 3,
@@ -56,7 +60,9 @@ impl Refusal {
             Refusal::BadSetUp => 20,
         }
     }
+}
 
+impl Refusal {
     // The line that goes with a bad line, and nothing with any other refusal.
     pub fn line(self) -> Option<usize>
         ensures { option_to_list result ≡ (told self).1 }
@@ -67,3 +73,35 @@ impl Refusal {
         }
     }
 }
+
+// The refusal in words, with the line of a bad line.
+impl fmt::Display for Refusal {
+    ghost output = { λ refusal. Some (named refusal) };
+
+    fn fmt<W: fmt::Write>(&self, f: &mut fmt::Formatter<W>) -> fmt::Result {
+        match self {
+            Refusal::NoSuchPlace => f.write_str("no such place"),
+            Refusal::BadNumber => f.write_str("bad number"),
+            Refusal::OverLimit => f.write_str("over the limit"),
+            Refusal::Shut => f.write_str("shut"),
+            Refusal::Settled => f.write_str("settled"),
+            Refusal::WrongTotal => f.write_str("wrong total"),
+            Refusal::NotNewer => f.write_str("not newer"),
+            Refusal::BadSeal => f.write_str("bad seal"),
+            Refusal::InContest => f.write_str("in contest"),
+            Refusal::ParentNotAgreed => f.write_str("parent not agreed"),
+            Refusal::AllotmentBound => f.write_str("allotment bound"),
+            Refusal::NothingAgreed => f.write_str("nothing agreed"),
+            Refusal::TooEarly => f.write_str("too early"),
+            Refusal::NothingPosted => f.write_str("nothing posted"),
+            Refusal::BadStep => f.write_str("bad step"),
+            Refusal::LastBlock => f.write_str("last block"),
+            Refusal::NoSealsLeft => f.write_str("no seals left"),
+            Refusal::BadLine(line) => write!(f, "bad line, line {line}"),
+            Refusal::TooSmall => f.write_str("too small"),
+            Refusal::BadSetUp => f.write_str("bad set-up"),
+        }
+    }
+}
+
+impl Error for Refusal {}

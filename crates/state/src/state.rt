@@ -4,7 +4,7 @@ ghost use Rattle.state.specs.Limits.{max_place, max_total, parties};
 use crate::quantity::StateNumber;
 
 // How the value of a place is divided among its eight parties, or among the eight children of a factory.
-#[derive(Clone, Copy)]
+#[derive(Clone, Copy, PartialEq, Eq)]
 pub struct State {
     pub place: usize,
     pub number: StateNumber,
