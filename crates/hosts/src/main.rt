@@ -11,67 +11,74 @@ use output_chain::chain::OutputChain;
 use state::raw::RawState;
 use state::refusal::Refusal;
 use state::state::State;
+use std::fmt;
 
-fn print_amounts(rt: &HostRuntime, amounts: [u64; 8]) -> anyhow::Result<()> {
-    let [a0, a1, a2, a3, a4, a5, a6, a7] = amounts;
-    println!(rt; " amounts {a0} {a1} {a2} {a3} {a4} {a5} {a6} {a7}")?;
-    Ok(())
+// Numbers, each with a space before it.
+#[derive(Drop)]
+struct Spaced<'a, T>(&'a [T]);
+
+impl<T: fmt::Display> fmt::Display for Spaced<'_, T> {
+    fn fmt<W: fmt::Write>(&self, f: &mut fmt::Formatter<W>) -> fmt::Result {
+        for number in self.0 {
+            write!(f, " {number}")?;
+        }
+        Ok(())
+    }
 }
 
-fn print_view(rt: &HostRuntime, view: View) -> anyhow::Result<()> {
-    match view.parent {
-        None => print!(rt; "root")?,
-        Some(parent) => {
-            let place = parent.place;
-            let index = parent.index;
-            print!(rt; "child of {place} index {index}")?;
+// What a place shows.
+#[derive(Drop)]
+struct Shown(View);
+
+impl fmt::Display for Shown {
+    fn fmt<W: fmt::Write>(&self, f: &mut fmt::Formatter<W>) -> fmt::Result {
+        let view = &self.0;
+        match view.parent {
+            None => write!(f, "root")?,
+            Some(parent) => write!(f, "child of {} index {}", parent.place, parent.index)?,
+        }
+        write!(f, " delay {} funding {} ", view.delay.blocks, view.funding)?;
+        let amounts = Spaced(&view.amounts);
+        match view.standing {
+            Standing::Shut => write!(f, "shut"),
+            Standing::Open => write!(f, "open"),
+            Standing::Posted { number, since } => {
+                write!(
+                    f,
+                    "posted {} since {} amounts{amounts}",
+                    number.value, since.blocks
+                )
+            }
+            Standing::Settled { number } => write!(f, "settled {} amounts{amounts}", number.value),
         }
     }
-    let delay = view.delay.blocks;
-    let funding = view.funding;
-    print!(rt; " delay {delay} funding {funding} ")?;
-    match view.standing {
-        Standing::Shut => println!(rt; "shut")?,
-        Standing::Open => println!(rt; "open")?,
-        Standing::Posted { number, since } => {
-            let number = number.value;
-            let since = since.blocks;
-            print!(rt; "posted {number} since {since}")?;
-            print_amounts(rt, view.amounts)?;
-        }
-        Standing::Settled { number } => {
-            let number = number.value;
-            print!(rt; "settled {number}")?;
-            print_amounts(rt, view.amounts)?;
-        }
-    }
-    Ok(())
 }
 
-fn print_answer(rt: &HostRuntime, answer: Result<(), Refusal>) -> anyhow::Result<()> {
-    match answer {
-        Ok(()) => println!(rt; "ok")?,
-        Err(refusal) => {
-            let number = refusal.number();
-            println!(rt; "no {number}")?;
+// The answer of a call.
+#[derive(Drop)]
+struct Answer(Result<(), Refusal>);
+
+impl fmt::Display for Answer {
+    fn fmt<W: fmt::Write>(&self, f: &mut fmt::Formatter<W>) -> fmt::Result {
+        match self.0 {
+            Ok(()) => write!(f, "ok"),
+            Err(refusal) => write!(f, "no {}", u8::from(refusal)),
         }
     }
-    Ok(())
 }
 
 fn look<L: Ledger>(rt: &HostRuntime, ledger: &L, place: usize) -> anyhow::Result<()> {
-    print!(rt; "look {place}: ")?;
     match ledger.view(place) {
-        Ok(view) => print_view(rt, view),
-        Err(refusal) => print_answer(rt, Err(refusal)),
+        Ok(view) => println!(rt; "look {place}: {}", Shown(view))?,
+        Err(refusal) => println!(rt; "look {place}: {}", Answer(Err(refusal)))?,
     }
+    Ok(())
 }
 
 fn print_account<L: Ledger>(rt: &HostRuntime, ledger: &L) -> anyhow::Result<()> {
     let account = account_of(ledger);
-    let [p0, p1, p2, p3, p4, p5, p6, p7] = account.paid;
-    let standing = account.standing;
-    println!(rt; "paid {p0} {p1} {p2} {p3} {p4} {p5} {p6} {p7} standing {standing}")?;
+    let paid = Spaced(&account.paid);
+    println!(rt; "paid{paid} standing {}", account.standing)?;
     Ok(())
 }
 
@@ -83,29 +90,26 @@ fn post<H: Host>(
     a0: u64,
     a1: u64,
 ) -> anyhow::Result<()> {
-    print!(rt; "post {place} {number} {a0} {a1}: ")?;
-    let mut state = State::blank();
-    let answer = match state.make(RawState {
+    let raw = RawState {
         place,
         number,
         amounts: [a0, a1, 0, 0, 0, 0, 0, 0],
-    }) {
-        Ok(()) => host.post(&state),
-        Err(refusal) => Err(refusal),
     };
-    print_answer(rt, answer)
+    let answer = Answer(State::try_from(raw).and_then(|state| host.post(&state)));
+    println!(rt; "post {place} {number} {a0} {a1}: {answer}")?;
+    Ok(())
 }
 
 fn settle<H: Host>(rt: &HostRuntime, host: &mut H, place: usize) -> anyhow::Result<()> {
-    print!(rt; "settle {place}: ")?;
-    let answer = host.settle(place);
-    print_answer(rt, answer)
+    let answer = Answer(host.settle(place));
+    println!(rt; "settle {place}: {answer}")?;
+    Ok(())
 }
 
 fn advance<H: Host>(rt: &HostRuntime, host: &mut H, blocks: u64) -> anyhow::Result<()> {
-    print!(rt; "advance {blocks}: ")?;
-    let answer = host.advance(blocks);
-    print_answer(rt, answer)
+    let answer = Answer(host.advance(blocks));
+    println!(rt; "advance {blocks}: {answer}")?;
+    Ok(())
 }
 
 // A factory over place 0 is settled in its newest state, and then a channel under it.
@@ -138,11 +142,11 @@ fn play<H: Host>(rt: &HostRuntime, host: &mut H) -> anyhow::Result<()> {
 
 // Puts a factory on place 0 of a host, plays on it, and takes a copy.
 fn story<H: Host + Drop>(rt: &HostRuntime, host: H) -> anyhow::Result<()> {
-    print!(rt; "factory over 0: ")?;
-    print_answer(rt, Factory::check(&host, 0, &[3; 8]))?;
+    let answer = Answer(Factory::check(&host, 0, &[3; 8]));
+    println!(rt; "factory over 0: {answer}")?;
     let mut host = Factory::over(host, 0, &[3; 8]);
-    print!(rt; "factory over 0 again: ")?;
-    print_answer(rt, Factory::check(&host, 0, &[3; 8]))?;
+    let answer = Answer(Factory::check(&host, 0, &[3; 8]));
+    println!(rt; "factory over 0 again: {answer}")?;
     play(rt, &mut host)?;
     let copy = Frozen::of(&host);
     advance(rt, &mut host, 5)?;
@@ -157,17 +161,13 @@ fn run(rt: &HostRuntime) -> anyhow::Result<()> {
         fundings: [1000, 500, 0, 0, 0, 0, 0, 0],
         delays: [10, 0, 2, 2, 2, 2, 2, 2],
     };
-    print!(rt; "adjudicator: ")?;
-    print_answer(rt, setup.check())?;
+    println!(rt; "adjudicator: {}", Answer(setup.check()))?;
     story(rt, Adjudicator::new(&setup))?;
-    print!(rt; "chain: ")?;
-    print_answer(rt, setup.check())?;
+    println!(rt; "chain: {}", Answer(setup.check()))?;
     let mut chain = OutputChain::new(&setup);
-    let outputs = chain.outputs();
-    println!(rt; "outputs {outputs}")?;
+    println!(rt; "outputs {}", chain.outputs())?;
     settle_root(rt, &mut chain)?;
-    let outputs = chain.outputs();
-    println!(rt; "outputs {outputs}")?;
+    println!(rt; "outputs {}", chain.outputs())?;
     story(rt, OutputChain::new(&setup))
 }
 
