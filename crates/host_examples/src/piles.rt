@@ -1,4 +1,4 @@
-use crate::calls::{standing, state, told};
+use crate::calls::{Stage, stage_at, state, told};
 use account::account::account_of;
 use adjudicator::table::Adjudicator;
 use factory::factory::Factory;
@@ -21,7 +21,7 @@ pub(crate) fn over<B: Host>(below: B, seat: usize) -> Factory<B> {
 }
 
 // The answer to a factory over a place.
-pub(crate) fn checked<B: Host>(below: &B, seat: usize) -> u8 {
+pub(crate) fn checked<B: Host>(below: &B, seat: usize) -> Result<(), u8> {
     told(Factory::check(below, seat, &DELAYS))
 }
 
@@ -37,21 +37,21 @@ pub(crate) fn sums<L: Ledger>(ledger: &L) -> (u128, u128, u128) {
 
 // Settles a place in a state that gives all to index 0.
 pub(crate) fn close<H: Host>(host: &mut H, place: usize) -> bool {
-    let posted = told(host.post(&state(place as u64, 1, 1000, 0))) == 0;
+    let posted = host.post(&state(place as u64, 1, 1000, 0)).is_ok();
     let _ = host.advance(2);
-    posted && told(host.settle(place)) == 0
+    posted && host.settle(place).is_ok()
 }
 
 #[test]
 fn a_factory_over_a_shut_place(rt: HostRuntime) {
     let one = over(base(), 0);
-    assert_eq!(rt; standing(&one, 8), 1);
-    assert_eq!(rt; checked(&one, 8), 0);
+    assert_eq!(rt; stage_at(&one, 8), Some(Stage::Shut));
+    assert_eq!(rt; checked(&one, 8), Ok(()));
     assert_eq!(rt; places(&over(one, 8)), 24);
 }
 
 // A factory over a posted place adds no place, and passes calls down.
-fn refused() -> [u8; 4] {
+fn refused() -> [Result<(), u8>; 4] {
     let mut host = base();
     let a = told(host.post(&state(0, 1, 1000, 0)));
     let b = checked(&host, 0);
@@ -66,13 +66,13 @@ fn refused() -> [u8; 4] {
 
 #[test]
 fn a_factory_that_is_refused_adds_no_place(rt: HostRuntime) {
-    assert_eq!(rt; checked(&base(), 8), 20);
+    assert_eq!(rt; checked(&base(), 8), Err(20));
     assert_eq!(rt;
         told(Factory::check(&base(), 0, &[2, 2, 2, 1, 2, 2, 2, 2])),
-        20
+        Err(20)
     );
-    assert_eq!(rt; refused(), [0, 20, 0, 1]);
-    assert_eq!(rt; checked(&over(base(), 1), 1), 20);
+    assert_eq!(rt; refused(), [Ok(()), Err(20), Ok(()), Err(1)]);
+    assert_eq!(rt; checked(&over(base(), 1), 1), Err(20));
 }
 
 // A settled place with children pays nothing; and a copy stays as it was.
@@ -88,6 +88,6 @@ fn an_account_depends_on_the_ledger(rt: HostRuntime) {
     assert!(rt; close(&mut one, 8));
     assert_eq!(rt; sums(&one), (1000, 0, 7000));
     assert_eq!(rt; sums(&copy), (0, 0, 8000));
-    assert_eq!(rt; standing(&copy, 8), 2);
-    assert_eq!(rt; standing(&copy, 16), 0);
+    assert_eq!(rt; stage_at(&copy, 8), Some(Stage::Open));
+    assert_eq!(rt; stage_at(&copy, 16), None);
 }
