@@ -1,17 +1,12 @@
-use Rattle.std.specs.Prelude.{◌≡◌, ℕ, zero, suc, ◌-◌, ◌<◌, Bool, true, false, ◌⊎◌, List, [], ◌∷◌, length, take, slice_index_or}
+use Rattle.std.specs.Prelude.{◌≡◌, ℕ, zero, suc, ◌-◌, ◌<◌, Bool, true, false, ◌⊎◌, List, [], ◌∷◌, length, slice_index_or}
 use Rattle.std.specs.Str.{bytes_eq}
 use Rattle.state.specs.declared.state.State.{State}
 use Rattle.state.specs.States.{words}
-use Rattle.seal.specs.declared.register.Register.{Register}
 use Rattle.seal.specs.Seals.{Seals}
 
 -- how many rows a register has
 abbrev pub max_rows : ℕ
 max_rows = 256
-
--- the states that a register has signed, in order; the row of each is its index
-abbrev pub signed : Register → List State
-signed r = take r.filled r.rows
 
 -- whether row k is filled with this very state
 abbrev pub holds : List State → ℕ → State → Bool
@@ -27,8 +22,9 @@ FilledWith rows k state = (k < length rows) × ((d : State) → slice_index_or r
 abbrev pub row_seals : List State → Seals
 row_seals rows = record { good = λ state k. holds rows k state; left = max_rows - length rows }
 
-abbrev pub register_meaning : Register → Seals
-register_meaning r = row_seals (signed r)
+-- a register stands for the states that it has signed, in order; the row of each is its index
+abbrev pub register_meaning : List State → Seals
+register_meaning = row_seals
 
 -- a register gives the number of the next row, and nothing but this pair becomes good
 abbrev pub RowGives : Seals → State → ℕ → Seals → Type 0

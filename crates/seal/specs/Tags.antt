@@ -18,7 +18,7 @@ abbrev pub tag_seals : ℕ → ℕ → ℕ → Seals
 tag_seals k0 k1 left = record { good = λ state seal. (seal == tag_of k0 k1 state); left = left }
 
 abbrev pub tag_meaning : TagScheme → Seals
-tag_meaning s = tag_seals s.k0 s.k1 s.left
+tag_meaning s = tag_seals s.key.k0 s.key.k1 s.left
 
 -- a tag scheme gives the one seal that is good with the state, and no pair becomes good or bad
 abbrev pub TagGives : Seals → State → ℕ → Seals → Type 0

@@ -3,7 +3,5 @@
 
 pub mod key;
 pub mod register;
-pub mod register_scheme;
 pub mod scheme;
 pub mod tag;
-pub mod tag_scheme;

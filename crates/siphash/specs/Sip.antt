@@ -1,4 +1,6 @@
 use Rattle.std.specs.Prelude.{ℕ, ◌+◌, ◌-◌, ◌*◌, ◌/◌, ◌%◌, ◌^◌, List, [], ◌∷◌, ◌++◌, map, length, drop, replicate, fold, bit_or, bit_xor}
+use Rattle.std.specs.Int.{w64, to_le_bytes}
+use Rattle.std.specs.List.{flat_map}
 use Rattle.std.specs.Simd.{first_chunks}
 use Rattle.siphash.specs.declared.Lanes.{Lanes}
 
@@ -68,20 +70,6 @@ last_word rest len = little_endian ((rest ++ replicate (7 - length rest) 0) ++ (
 abbrev pub sip_hash : ℕ → ℕ → List ℕ → ℕ
 sip_hash k0 k1 bytes = finalize (compress (fold compress (initial k0 k1) (whole_words bytes)) (last_word (left_over bytes) (length bytes)))
 
--- the eight bytes of a 64-bit word, least byte first
-abbrev pub bytes_of : ℕ → List ℕ
-bytes_of w =
-    (w % 256)
-    ∷ (w / 2 ^ 8 % 256)
-    ∷ (w / 2 ^ 16 % 256)
-    ∷ (w / 2 ^ 24 % 256)
-    ∷ (w / 2 ^ 32 % 256)
-    ∷ (w / 2 ^ 40 % 256)
-    ∷ (w / 2 ^ 48 % 256)
-    ∷ (w / 2 ^ 56 % 256)
-    ∷ []
-
--- the bytes of 64-bit words: the eight bytes of each, in order
+-- the bytes of 64-bit words: the eight bytes of each, least byte first
 unfoldable pub word_bytes : List ℕ → List ℕ
-word_bytes [] = []
-word_bytes (w ∷ ws) = bytes_of w ++ word_bytes ws
+word_bytes ws = flat_map (to_le_bytes w64) ws

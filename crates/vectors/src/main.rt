@@ -3,18 +3,20 @@
 ghost use Rattle.std.specs.Prelude.{◌≡◌, length, IfOk, vec_len, ◌==◌};
 ghost use Rattle.siphash.specs.Sip.{sip_hash, word_bytes};
 
-use siphash::{hash_bytes, hash_words};
+use siphash::{Key, hash_bytes, hash_words};
 use std::alloc::{AllocError, Global};
 use std::io::{BufRead, BufReader};
+use std::num::ParseIntError;
 
-// The key bytes 00 to 0f, as two words.
-const K0: u64 = 0x0706_0504_0302_0100;
+// The key bytes 00 to 0f.
+const KEY: Key = Key {
+    k0: 0x0706_0504_0302_0100,
+    k1: 0x0f0e_0d0c_0b0a_0908,
+};
 
-const K1: u64 = 0x0f0e_0d0c_0b0a_0908;
-
-// A line of the input.
+// A hash to compare with.
 #[derive(Drop)]
-enum Line {
+enum Vector {
     // The hash of the `len` bytes 00, 01, 02 .. under the key bytes 00 to 0f.
     Bytes {
         len: u8,
@@ -22,91 +24,83 @@ enum Line {
     },
     // The hash of whole words.
     Words {
-        k0: u64,
-        k1: u64,
+        key: Key,
         words: Vec<u64>,
         hash: u64,
     },
-    // A comment, or an empty line.
-    Nothing,
-    // None of these.
-    Unknown,
+}
+
+// Why a line could not be read.
+#[derive(Debug, Drop)]
+enum LineError {
+    Malformed,
+    OutOfMemory(AllocError),
+}
+
+impl From<ParseIntError> for LineError {
+    fn from(_error: ParseIntError) -> LineError {
+        LineError::Malformed
+    }
+}
+
+impl From<AllocError> for LineError {
+    fn from(error: AllocError) -> LineError {
+        LineError::OutOfMemory(error)
+    }
 }
 
 // What was compared so far.
-#[derive(Drop)]
+#[derive(Default, Drop)]
 struct Tally {
     bytes: u64,
     words: u64,
     mismatches: u64,
 }
 
-fn hex(field: &str) -> Option<u64> {
-    u64::from_str_radix(field, 16).ok()
+fn hex(field: &str) -> Result<u64, ParseIntError> {
+    u64::from_str_radix(field, 16)
 }
 
-// The numbers of hex fields, or nothing where one is no number.
-fn hex_words(heap: Global, fields: &[&str]) -> Result<Option<Vec<u64>>, AllocError> {
-    let mut words = Vec::new(heap);
-    for field in fields {
-        match hex(*field) {
-            Some(w) => words.push(w)?,
-            None => return Ok(None),
+fn hex_words(heap: Global, fields: &[&str]) -> Result<Vec<u64>, LineError> {
+    fields
+        .iter()
+        .map(|field| -> Result<u64, LineError> { Ok(hex(*field)?) })
+        .try_collect(heap)
+}
+
+impl Vector {
+    // The vector of a line, and none where the line is empty or a comment.
+    fn parse(heap: Global, line: &str) -> Result<Option<Vector>, LineError> {
+        if line.starts_with('#') {
+            return Ok(None);
+        }
+        let fields: Vec<&str> = line.split_whitespace().collect(heap)?;
+        match fields.as_slice() {
+            [] => Ok(None),
+            [len, hash] => Ok(Some(Vector::Bytes {
+                len: len.parse()?,
+                hash: hex(*hash)?,
+            })),
+            [k0, k1, count, words @ .., hash] if count.parse() == Ok(words.len()) => {
+                Ok(Some(Vector::Words {
+                    key: Key {
+                        k0: hex(*k0)?,
+                        k1: hex(*k1)?,
+                    },
+                    words: hex_words(heap, words)?,
+                    hash: hex(*hash)?,
+                }))
+            }
+            _ => Err(LineError::Malformed),
         }
     }
-    Ok(Some(words))
-}
 
-fn byte_line(len: &str, hash: &str) -> Line {
-    match (len.parse::<u8>(), hex(hash)) {
-        (Ok(len), Some(hash)) => Line::Bytes { len, hash },
-        _ => Line::Unknown,
-    }
-}
-
-fn word_line(
-    heap: Global,
-    key: (&str, &str),
-    count: &str,
-    words: &[&str],
-    hash: &str,
-) -> Result<Line, AllocError> {
-    if count.parse::<usize>() != Ok(words.len()) {
-        return Ok(Line::Unknown);
-    }
-    let words = hex_words(heap, words)?;
-    match (hex(key.0), hex(key.1), words, hex(hash)) {
-        (Some(k0), Some(k1), Some(words), Some(hash)) => Ok(Line::Words {
-            k0,
-            k1,
-            words,
-            hash,
-        }),
-        _ => Ok(Line::Unknown),
-    }
-}
-
-fn parse(heap: Global, line: &str) -> Result<Line, AllocError> {
-    if line.starts_with('#') {
-        return Ok(Line::Nothing);
-    }
-    let all: Vec<&str> = line.split_whitespace().collect(heap)?;
-    let fields = all.as_slice();
-    let n = fields.len();
-    if n == 0 {
-        Ok(Line::Nothing)
-    } else if n == 2 {
-        Ok(byte_line(fields[0], fields[1]))
-    } else if n >= 4 {
-        word_line(
-            heap,
-            (fields[0], fields[1]),
-            fields[2],
-            &fields[3..n - 1],
-            fields[n - 1],
-        )
-    } else {
-        Ok(Line::Unknown)
+    // Whether hashing gives the hash of the vector.
+    fn is_right(&self, heap: Global) -> Result<bool, AllocError> {
+        match self {
+            Vector::Bytes { len, hash } => Ok(hash_counting(heap, *len)? == *hash),
+            Vector::Words { key, words, hash } => words_agree(heap, *key, words.as_slice(), *hash),
+        }
     }
 }
 
@@ -114,20 +108,18 @@ fn parse(heap: Global, line: &str) -> Result<Line, AllocError> {
 fn counting(heap: Global, len: u8) -> Result<Vec<u8>, AllocError>
     ensures { IfOk result (λ v. vec_len v ≡ len) }
 {
-    let mut bytes = Vec::new(heap);
-    for i in 0..len {
-        bytes.push(i)?;
-    }
-    Ok(bytes)
+    (0..len).collect(heap)
 }
 
 // The bytes of words, each least byte first.
+#[tactic(auto, unfolding(siphash::specs::Sip::word_bytes))]
 fn word_bytes(heap: Global, words: &[u64]) -> Result<Vec<u8>, AllocError>
     ensures { IfOk result (λ v. v.items ≡ word_bytes words.now) }
 {
+    // a loop, since a proof knows nothing of the items of a `flat_map` over arrays
     let mut bytes = Vec::new(heap);
-    for w in words {
-        bytes.extend_from_slice(&w.to_le_bytes())?;
+    for word in words {
+        bytes.extend_from_slice(&word.to_le_bytes())?;
     }
     Ok(bytes)
 }
@@ -135,36 +127,32 @@ fn word_bytes(heap: Global, words: &[u64]) -> Result<Vec<u8>, AllocError>
 // The hash of the first `len` bytes 00, 01, 02 .. under the key bytes 00 to 0f.
 fn hash_counting(heap: Global, len: u8) -> Result<u64, AllocError> {
     let message = counting(heap, len)?;
-    Ok(hash_bytes(K0, K1, message.as_slice()))
+    Ok(hash_bytes(KEY, message.as_slice()))
 }
 
 // Whether words hash to `hash`, both as words and as their bytes.
-fn words_agree(heap: Global, k0: u64, k1: u64, words: &[u64], hash: u64) -> Result<bool, AllocError>
-    ensures { IfOk result (λ same. same ≡ (sip_hash k0 k1 (word_bytes words.now) == hash)) }
+fn words_agree(heap: Global, key: Key, words: &[u64], hash: u64) -> Result<bool, AllocError>
+    ensures { IfOk result (λ same. same ≡ (sip_hash key.k0 key.k1 (word_bytes words.now) == hash)) }
 {
     let bytes = word_bytes(heap, words)?;
-    Ok(hash_words(k0, k1, words) == hash && hash_bytes(k0, k1, bytes.as_slice()) == hash)
+    Ok(hash_words(key, words) == hash && hash_bytes(key, bytes.as_slice()) == hash)
 }
 
 impl Tally {
     // Counts one line, and says whether it is right.
-    fn count(&mut self, heap: Global, line: Line) -> Result<bool, AllocError> {
-        let right = match line {
-            Line::Nothing => true,
-            Line::Unknown => false,
-            Line::Bytes { len, hash } => {
-                self.bytes = self.bytes.saturating_add(1);
-                hash_counting(heap, len)? == hash
+    fn count(&mut self, heap: Global, line: &str) -> Result<bool, AllocError> {
+        let right = match Vector::parse(heap, line) {
+            Ok(None) => true,
+            Ok(Some(vector)) => {
+                let kind = match &vector {
+                    Vector::Bytes { .. } => &mut self.bytes,
+                    Vector::Words { .. } => &mut self.words,
+                };
+                *kind = kind.saturating_add(1);
+                vector.is_right(heap)?
             }
-            Line::Words {
-                k0,
-                k1,
-                words,
-                hash,
-            } => {
-                self.words = self.words.saturating_add(1);
-                words_agree(heap, k0, k1, words.as_slice(), hash)?
-            }
+            Err(LineError::Malformed) => false,
+            Err(LineError::OutOfMemory(error)) => return Err(error),
         };
         if !right {
             self.mismatches = self.mismatches.saturating_add(1);
@@ -175,23 +163,20 @@ impl Tally {
 
 fn run(rt: &HostRuntime) -> anyhow::Result<()> {
     let heap = rt.alloc();
-    let mut tally = Tally {
-        bytes: 0,
-        words: 0,
-        mismatches: 0,
-    };
+    let mut tally = Tally::default();
     for line in BufReader::new(heap, rt.stdin())?.lines(heap) {
         let line = line?;
-        let parsed = parse(heap, line.as_str())?;
-        if !tally.count(heap, parsed)? {
+        if !tally.count(heap, line.as_str())? {
             println!(rt; "mismatch: {line}")?;
         }
     }
     let fifteen = hash_counting(heap, 15)?;
     println!(rt; "15 bytes: {fifteen:016x}")?;
-    let bytes = tally.bytes;
-    let words = tally.words;
-    let mismatches = tally.mismatches;
+    let Tally {
+        bytes,
+        words,
+        mismatches,
+    } = tally;
     println!(rt; "{bytes} byte vectors, {words} word vectors, {mismatches} mismatches")?;
     Ok(())
 }

@@ -1,14 +1,13 @@
-use Rattle.std.proofs.Common.{sym, arith}
-use Rattle.std.proofs.lemmas.List.{length-take-le, take_more_set}
-use Rattle.seal.specs.Registers.{signed}
-use Rattle.seal.proofs.Filling.{row_signs}
+use Rattle.std.proofs.Common.{◌≡◌, List, [], ◌∷◌, ◌++◌, length, sym, ap, ◌∙◌, arith}
+use Rattle.std.proofs.lemmas.List.{take_more_set}
+use Rattle.state.specs.declared.state.State.{State}
+use Rattle.seal.proofs.Filling.{row_signs, filled_rows}
 use Rattle.seal.proofs.register.Register.fill.Goals as goal
 
-pub returns : goal.returns
-returns c =
-    let s = c.args.self.now in
-    let x = c.args.state.now in
-    let n = length-take-le s.filled s.rows (omega (arith, s.long, s.within)) in
-    let p = c.requires in
-    let e = take_more_set s.rows s.filled x (omega (arith, s.long)) in
-    record { row = sym n; rows = e; signs = row_signs (signed s) _ x s.filled p (sym n) e }
+pub returns-clause-signs : goal.returns-clause-signs
+returns-clause-signs c =
+    let r = c.self.inside in
+    let i = c.self.invariant in
+    let n : length c.args.self.now ≡ r.filled = ap length (sym c.self.view_is) ∙ filled_rows r.rows r.filled (omega (arith, i.0, i.1)) in
+    row_signs _ _ _ _ c.requires (sym n)
+    (take_more_set r.rows r.filled c.args.state.now (omega (arith, i.0, n, c.requires)) ∙ ap (λ (xs : List State). xs ++ (c.args.state.now ∷ [])) c.self.view_is)
