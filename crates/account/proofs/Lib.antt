@@ -1,3 +1,2 @@
 pub mod Conserving
-mod Parting
 pub mod Summing

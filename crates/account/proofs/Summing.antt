@@ -7,10 +7,6 @@ use Rattle.account.specs.Sums.{sum_to}
 pub sum_more : (f : ℕ → ℕ) (n : ℕ) → sum_to (n + 1) f ≡ sum_to n f + f n
 sum_more f n = ap (λ k. sum_to k f) (add-one n)
 
--- the sum so far and one figure more
-pub sum_step : (f : ℕ → ℕ) (n new old part : ℕ) → new ≡ old + part → old ≡ sum_to n f → part ≡ f n → new ≡ sum_to (n + 1) f
-sum_step f n new old part e so_far is = e ∙ ap (λ k. k + part) so_far ∙ ap (λ k. sum_to n f + k) is ∙ sym (sum_more f n)
-
 pub sum_same : (n : ℕ) (f g : ℕ → ℕ) → ((p : ℕ) → p < n → f p ≡ g p) → sum_to n f ≡ sum_to n g
 sum_same zero f g h = refl
 sum_same (suc n) f g h = ap₂ (λ a b. a + b) (sum_same n f g (λ p l. h p (omega arith))) (h n (omega arith))

@@ -53,5 +53,5 @@ pub record Sums (a : Account) (m : Model) (n : ℕ) : Type 0 where
 
 -- n places add less than this, so that no sum wraps
 pub record Bounded (a : Account) (n : ℕ) : Type 0 where
-  pub paid : (j : ℕ) → slice_index a.paid j ≤ n * 2 ^ 64
+  pub paid : (j : ℕ) → j < parties → slice_index a.paid j ≤ n * 2 ^ 64
   pub standing : a.standing ≤ n * 2 ^ 64

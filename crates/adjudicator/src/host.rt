@@ -1,20 +1,22 @@
 ghost use Rattle.adjudicator.specs.Tables.{model_of};
-ghost use Rattle.adjudicator.specs.Tabled.{table_laid};
+ghost use Rattle.std.proofs.Common.{rules};
 ghost use Rattle.ledger.proofs.Keeping.{laws_hold, steps_keep};
+ghost use Rattle.ledger.proofs.Rooted.{rooted_laid};
 ghost use Rattle.ledger.proofs.Showing.{steps_show};
 
 use crate::table::Adjudicator;
-use ledger::host::{Host, Ledger, MAX_STEP};
-use ledger::phase::Call;
+use ledger::host::{Host, Ledger};
+use ledger::rising::raised;
+use ledger::root::Root;
 use ledger::view::View;
-use state::quantity::{Height, MAX_HEIGHT};
+use state::quantity::Height;
 use state::refusal::Refusal;
 use state::state::State;
 
 impl Ledger for Adjudicator {
     ghost model = { model_of };
 
-    ghost laid = { λ s. table_laid s };
+    ghost laid = { λ s. rooted_laid s.height.blocks s.roots s.height.high (Prim.search rules) };
 
     ghost two = { λ s law. laws_hold _ law };
 
@@ -23,51 +25,37 @@ impl Ledger for Adjudicator {
     }
 
     fn count(&self) -> usize {
-        self.root_count() // every place is a root
+        self.roots.len()
     }
 
     fn view(&self, place: usize) -> Result<View, Refusal> {
-        if place < self.root_count() {
-            return Ok(self.shown_at(place));
-        }
-        Err(Refusal::NoSuchPlace)
+        self.roots
+            .get(place)
+            .map(Root::view)
+            .ok_or(Refusal::NoSuchPlace)
     }
 }
 
 impl Host for Adjudicator {
     ghost steps = { λ s law. (steps_keep _ law, steps_show _ law) };
 
+    // a root is copied and written back, since a proof knows no element after a `get_mut`
     fn post(&mut self, state: &State) -> Result<(), Refusal> {
-        let place = state.place;
-        if state.place >= self.root_count() {
-            return Err(Refusal::NoSuchPlace);
-        }
-        let value = self.value_at(place);
-        self.step_at(
-            place,
-            Call::Post {
-                state: *state,
-                value,
-            },
-        )
+        let mut root = *self.roots.get(state.place).ok_or(Refusal::NoSuchPlace)?;
+        root.post(state, self.height)?;
+        self.roots[state.place] = root;
+        Ok(())
     }
 
     fn settle(&mut self, place: usize) -> Result<(), Refusal> {
-        if place >= self.root_count() {
-            return Err(Refusal::NoSuchPlace);
-        }
-        self.step_at(place, Call::Settle)
+        let mut root = *self.roots.get(place).ok_or(Refusal::NoSuchPlace)?;
+        root.settle(self.height)?;
+        self.roots[place] = root;
+        Ok(())
     }
 
     fn advance(&mut self, blocks: u64) -> Result<(), Refusal> {
-        if blocks == 0 || blocks > MAX_STEP {
-            return Err(Refusal::BadStep);
-        }
-        let next = self.height.blocks + blocks as u32;
-        if next > MAX_HEIGHT {
-            return Err(Refusal::LastBlock);
-        }
-        self.height = Height { blocks: next };
+        self.height = raised(self.height, blocks)?;
         Ok(())
     }
 }

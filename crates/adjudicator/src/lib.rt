@@ -3,5 +3,4 @@
 
 pub mod host;
 pub mod opening;
-mod step;
 pub mod table;

@@ -1,27 +1,12 @@
 ghost use Rattle.std.specs.Prelude.{◌≡◌};
 ghost use Rattle.adjudicator.specs.Tables.{model_of};
 ghost use Rattle.ledger.specs.Laws.{Lawful, Untouched};
-ghost use Rattle.ledger.specs.SetUps.{started_by, started};
+ghost use Rattle.ledger.specs.SetUps.{started};
 
 use crate::table::Adjudicator;
-use ledger::setting::{fundings_made, rows_made};
+use ledger::root::Root;
 use ledger::setup::SetUp;
 use state::quantity::Height;
-
-// The table of a set-up that is good, or against one that is not.
-fn opened(setup: &SetUp, good: bool) -> Adjudicator
-    ensures start { model_of result ≡ started_by good setup.now }
-    ensures lawful { Lawful (model_of result) }
-    ensures untouched { Untouched (model_of result) }
-{
-    let fundings = fundings_made(&setup.fundings, good);
-    let rows = rows_made(&setup.delays, good);
-    Adjudicator {
-        height: Height { blocks: 0 },
-        fundings,
-        rows,
-    }
-}
 
 impl Adjudicator {
     // Eight open roots at height 0. Against a bad set-up all fundings are 0 and all delays the longest.
@@ -30,7 +15,9 @@ impl Adjudicator {
         ensures lawful { Lawful (model_of result) }
         ensures untouched { Untouched (model_of result) }
     {
-        let good = setup.is_good();
-        opened(setup, good)
+        Adjudicator {
+            height: Height { blocks: 0 },
+            roots: setup.made().map(Root::open),
+        }
     }
 }

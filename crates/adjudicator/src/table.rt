@@ -1,16 +1,12 @@
-ghost use Rattle.std.specs.Prelude.{◌≡◌, ℕ, ◌≤◌, length, slice_index};
-ghost use Rattle.state.specs.Limits.{max_total};
+ghost use Rattle.std.specs.Prelude.{◌≡◌, length};
 
-use ledger::row::Row;
+use ledger::root::Root;
 use state::quantity::Height;
 
-// A row for each root, which keeps the deadline of a post in place of the height since which it stands.
+// Eight roots, whose rows keep the deadline of a post in place of the height since which it stands.
 #[derive(Drop)]
 pub struct Adjudicator {
     pub(crate) height: Height,
-    pub(crate) fundings: [u64; 8],
-    pub(crate) rows: [Row; 8],
-    ghost funded: { length fundings ≡ 8 },
-    ghost rowed: { length rows ≡ 8 },
-    ghost capped: { (k : ℕ) → slice_index fundings k ≤ max_total },
+    pub(crate) roots: [Root; 8],
+    ghost eight: { length roots ≡ 8 },
 }

@@ -3,13 +3,14 @@
 
 ghost use Rattle.std.specs.Prelude.{◌≡◌, ℕ, [], ◌∷◌};
 ghost use Rattle.cases.specs.Cases.{EdgeCases, expected};
-ghost use Rattle.state.specs.Refusals.{first};
+ghost use Rattle.state.specs.Refusals.{answer, first};
 ghost use Rattle.state.specs.States.{making_checks};
 
 use state::raw::RawState;
+use state::refusal::Refusal;
 use state::state::State;
 
-#[derive(Clone, Copy)]
+#[derive(Clone, Copy, Debug, PartialEq, Eq)]
 pub enum Case {
     LastNumber,
     NumberTooHigh,
@@ -19,31 +20,22 @@ pub enum Case {
 }
 
 // The answer to making a state of place 0 with this number and first amount.
-fn making(number: u64, amount: u64) -> u8
-    ensures { result ≡ (first (making_checks (record { place = 0; number = number; amounts = amount ∷ 0 ∷ 0 ∷ 0 ∷ 0 ∷ 0 ∷ 0 ∷ 0 ∷ [] }))).0 }
+fn making(number: u64, amount: u64) -> Result<(), Refusal>
+    ensures { answer result ≡ first (making_checks (record { place = 0; number = number; amounts = amount ∷ 0 ∷ 0 ∷ 0 ∷ 0 ∷ 0 ∷ 0 ∷ 0 ∷ [] })) }
 {
-    let mut state = State::blank();
-    match state.make(RawState {
+    State::try_from(RawState {
         place: 0,
         number,
         amounts: [amount, 0, 0, 0, 0, 0, 0, 0],
-    }) {
-        Ok(()) => 0,
-        Err(refusal) => refusal.number(),
-    }
+    })?;
+    Ok(())
 }
 
-// The laws behind the cases.
-fn laws()
-    ensures { EdgeCases }
-{}
-
-// Performs a case, and answers 0 or the number of its refusal.
-pub fn perform(case: Case) -> u8
-    ensures answer { result ≡ expected case }
+// Performs a case, and answers whether it is accepted.
+pub fn perform(case: Case) -> Result<(), Refusal>
+    ensures answer { answer result ≡ (expected case, []) }
     ensures laws { EdgeCases }
 {
-    laws();
     match case {
         Case::LastNumber => making(1_000_000_000, 0),
         Case::NumberTooHigh => making(1_000_000_001, 0),

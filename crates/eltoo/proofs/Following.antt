@@ -1,5 +1,5 @@
 -- What every call keeps, whatever the premises: a lawful ledger and its layout.
-use Rattle.std.proofs.Common.{◌≡◌, ℕ, zero, suc, Bool, true, false, List, [], ◌∷◌, Some, None, Option, sym, refl, ap, subst}
+use Rattle.std.proofs.Common.{◌≡◌, ℕ, zero, suc, Bool, true, false, List, [], ◌∷◌, Some, None, Option, Ok, Err, sym, refl, ap, subst, rules}
 use Rattle.std.proofs.lemmas.Bool.{cond_both, true≢false}
 use Rattle.state.specs.declared.refusal.Refusal.{Refusal}
 use Rattle.state.specs.declared.state.State.{State}
@@ -9,39 +9,36 @@ use Rattle.ledger.specs.Laws.{Lawful}
 use Rattle.ledger.specs.Model.{Model}
 use Rattle.ledger.specs.Steps.{post_checks, post_next, settle_checks, settle_next}
 use Rattle.ledger.proofs.Keeping.{steps_keep}
-use Rattle.state.proofs.Checking.{all_passed}
-use Rattle.eltoo.specs.declared.answer.Answer.{Answer}
-use Rattle.eltoo.specs.declared.answer.Answer.TheVariants.{Refused, Done, Sealed, Counted}
+use Rattle.eltoo.specs.declared.answer.Outcome.TheVariants.{Done, Sealed, Counted}
 use Rattle.eltoo.specs.declared.answer.Counts.{Counts}
 use Rattle.eltoo.specs.declared.call.Call.{Call}
 use Rattle.eltoo.specs.declared.call.Call.TheVariants.{Agree, Claim, Post, Settle, Advance, Round}
 use Rattle.eltoo.specs.Stations.{StationModel, count, newest_at, agree_checks, sealed_post_checks}
 use Rattle.eltoo.specs.Rounds.{Tour, is_accepted, one_post, one_settlement, tried, wants_post, wants_settle, tried_post, tried_settle, visit, visits, starting}
-use Rattle.eltoo.specs.Steps.{Own, Decided, Keeps, Agrees, Step}
+use Rattle.eltoo.specs.Steps.{Answer, Own, Decided, Keeps, Agrees, Step}
 use Rattle.eltoo.specs.Runs.{Entry, Run}
-use Rattle.eltoo.proofs.Standings.{all_pass}
 use Rattle.eltoo.proofs.Moves.{Alike, alike_same, alike_then, post_alike, settle_alike, advance_alike}
 
 -- a decided call was refused and changed nothing, or did its work
 pub data Decision (a : Answer) (s t : StationModel) (checks : List (Bool × ℕ)) (next : StationModel) : Type 0 where
-  refusing : (e : Refusal) → a ≡ Refused e → t ≡ s → Decision a s t checks next
-  doing : a ≡ Done → first checks ≡ accepted → t ≡ next → Decision a s t checks next
+  refusing : (e : Refusal) → a ≡ Err e → t ≡ s → Decision a s t checks next
+  doing : a ≡ Ok Done → first checks ≡ accepted → t ≡ next → Decision a s t checks next
 
 pub decision : (a : Answer) (s t : StationModel) (checks : List (Bool × ℕ)) (next : StationModel) → Decided a s t checks next → Decision a s t checks next
-decision (Refused e) s t checks next d = refusing e refl d.1
-decision Done s t checks next d = doing refl d.0 d.1
-decision (Sealed k) s t checks next d = absurd d
-decision (Counted c) s t checks next d = absurd d
+decision (Err e) s t checks next d = refusing e refl d.1
+decision (Ok Done) s t checks next d = doing refl d.0 d.1
+decision (Ok (Sealed k)) s t checks next d = absurd d
+decision (Ok (Counted c)) s t checks next d = absurd d
 
 pub data Agreement (own : Own) (a : Answer) (s t : StationModel) (x : State) : Type 0 where
-  refusing_it : (e : Refusal) → a ≡ Refused e → t ≡ s → Agreement own a s t x
-  keeping_it : (k : ℕ) → a ≡ Sealed k → first (agree_checks s x) ≡ accepted → Keeps own s t x k → Agreement own a s t x
+  refusing_it : (e : Refusal) → a ≡ Err e → t ≡ s → Agreement own a s t x
+  keeping_it : (k : ℕ) → a ≡ Ok (Sealed k) → first (agree_checks s x) ≡ accepted → Keeps own s t x k → Agreement own a s t x
 
 pub agreement : (own : Own) (a : Answer) (s t : StationModel) (x : State) → Agrees own a s t x → Agreement own a s t x
-agreement own (Refused e) s t x d = refusing_it e refl d.1
-agreement own Done s t x d = absurd d
-agreement own (Sealed k) s t x d = keeping_it k refl d.0 d.1
-agreement own (Counted c) s t x d = absurd d
+agreement own (Err e) s t x d = refusing_it e refl d.1
+agreement own (Ok Done) s t x d = absurd d
+agreement own (Ok (Sealed k)) s t x d = keeping_it k refl d.0 d.1
+agreement own (Ok (Counted c)) s t x d = absurd d
 
 -- a ledger that some steps of a host led to
 pub record Follows (m n : Model) : Type 0 where
@@ -90,11 +87,11 @@ visits_follow ks t (suc n) m law = visit_follows m ks (newest_at t n) n (visits 
 
 -- the checks of a sealed post end with those of the host
 pub host_accepts : (s : StationModel) (x : State) (seal : ℕ) → first (sealed_post_checks s x seal) ≡ accepted → first (post_checks s.ledger x) ≡ accepted
-host_accepts s x seal h = all_pass (post_checks s.ledger x) (all_passed (sealed_post_checks s x seal) refl h).1.1
+host_accepts s x seal h = search rules
 
 -- the same ledger, and one that is equal
 unmoved : (s t : StationModel) → Lawful s.ledger → t.ledger ≡ s.ledger → Follows s.ledger t.ledger
-unmoved s t law e = subst (Follows s.ledger) (sym e) (record { lawful = law; alike = alike_same s.ledger })
+unmoved s t law e = search rules
 
 pub ledger_of : {s t : StationModel} → t ≡ s → t.ledger ≡ s.ledger
 ledger_of e = ap (λ (y : StationModel). y.ledger) e

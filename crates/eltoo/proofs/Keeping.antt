@@ -1,7 +1,8 @@
 -- What holds along every run that meets the premises.
-use Rattle.std.proofs.Common.{◌≡◌, ℕ, zero, suc, ◌+◌, ◌<◌, ◌≤◌, Bool, true, false, cond, ◌&&◌, eqb, ltb, ◌⊎◌, List, [], ◌∷◌, length, get_or, replicate, Some, None, Option, sym, refl, ap, ◌∙◌, subst, inl, inr, arith}
+use Rattle.std.proofs.Common.{◌≡◌, ℕ, zero, suc, ◌+◌, ◌<◌, ◌≤◌, Bool, true, false, ◌&&◌, ltb, ◌⊎◌, List, [], ◌∷◌, length, get_or, replicate, Some, None, Option, is_some, Ok, Err, is_ok, sym, refl, ap, ◌∙◌, subst, inl, inr, arith, rules}
 use Rattle.std.proofs.lemmas.List.{length-replicate}
-use Rattle.std.proofs.lemmas.Bool.{cases_eq, eq-eqb, ne_eqb, true≢false, not-false, ltb-true, leb-false, or_left, or_right}
+use Rattle.std.proofs.Math.Bool.{and-false}
+use Rattle.std.proofs.lemmas.Bool.{cases_eq, true≢false, not-false, ltb-true, or_left, or_right}
 use Rattle.state.specs.declared.refusal.Refusal.{Refusal}
 use Rattle.state.specs.declared.state.State.{State}
 use Rattle.state.specs.declared.update.Update.{Update}
@@ -11,16 +12,15 @@ use Rattle.ledger.specs.declared.view.Parent.{Parent}
 use Rattle.ledger.specs.Laws.{max_places, child}
 use Rattle.ledger.specs.Model.{Model, place_at, shows_state}
 use Rattle.ledger.specs.Steps.{post_next, settle_checks, settle_next, advance_checks, advance_next}
-use Rattle.ledger.proofs.Changing.{some_same, none_some}
-use Rattle.eltoo.specs.declared.answer.Answer.{Answer}
-use Rattle.eltoo.specs.declared.answer.Answer.TheVariants.{Refused, Done, Sealed}
+use Rattle.ledger.proofs.Changing.{none_some}
+use Rattle.eltoo.specs.declared.answer.Outcome.TheVariants.{Done, Sealed}
 use Rattle.eltoo.specs.declared.call.Call.{Call}
 use Rattle.eltoo.specs.declared.call.Call.TheVariants.{Agree, Claim, Post, Settle, Advance, Round}
 use Rattle.eltoo.specs.Lineage.{HangsFrom, from_parent, from_further, lineage, among}
-use Rattle.eltoo.specs.Stations.{StationModel, means, count, total, newest_at, allotted, allotment_by, is_marked, is_agreed, outdated, agree_checks, claim_checks, sealed_post_checks, with_ledger, claim_next}
+use Rattle.eltoo.specs.Stations.{StationModel, means, count, total, newest_at, allotted, allotment_by, is_marked, outdated, agree_checks, claim_checks, sealed_post_checks, with_ledger, claim_next}
 use Rattle.eltoo.specs.Rounds.{Tour, starting, whole_round}
-use Rattle.eltoo.specs.Steps.{Own, Keeps, Step}
-use Rattle.eltoo.specs.Runs.{Entry, Begins, Run, is_accepting, Agreed, newest_by, newest_agreed, Claimed, Passes, SealedEarlier, risen_by, risen, Gaps, BelowDelays, InTime}
+use Rattle.eltoo.specs.Steps.{Answer, Own, Keeps, Step}
+use Rattle.eltoo.specs.Runs.{Entry, Begins, Run, Agreed, newest_by, newest_agreed, Claimed, Passes, SealedEarlier, risen_by, risen, Gaps, BelowDelays, InTime}
 use Rattle.eltoo.proofs.Standings.{settle_taken}
 use Rattle.eltoo.proofs.Moves.{Alike, post_alike, settle_alike, advance_alike, delay_same, parent_below}
 use Rattle.eltoo.proofs.Sound.{state_by, kept, NotNewer, Sound, sound_post, sound_settle, sound_advance}
@@ -57,28 +57,24 @@ changes Round = false
 
 -- a call that agrees and claims nothing
 abbrev Quiet : Call → Answer → Type 0
-Quiet c a = (changes c && is_accepting a) ≡ false
+Quiet c a = (changes c && is_ok a) ≡ false
 
-quiet_refused : (c : Call) (a : Answer) (e : Refusal) → a ≡ Refused e → Quiet c a
-quiet_refused c a e i = ap (λ (v : Answer). changes c && is_accepting v) i ∙ none (changes c)
-  where
-    none : (b : Bool) → (b && false) ≡ false
-    none true = refl
-    none false = refl
+quiet_refused : (c : Call) (a : Answer) (e : Refusal) → a ≡ Err e → Quiet c a
+quiet_refused c a e i = ap (λ (v : Answer). changes c && is_ok v) i ∙ and-false (changes c)
 
 quiet_newest : (c : Call) (a : Answer) (p : ℕ) (o : Option State) → Quiet c a → newest_by c a p o ≡ o
-quiet_newest (Agree x) a p o q = let no-a : is_accepting a ≡ false = q in ap (λ v. cond (v && eqb p x.place) (Some x) o) no-a
+quiet_newest (Agree x) a p o q = search rules
 quiet_newest (Claim r) a p o q = refl
 quiet_newest (Post x k) a p o q = refl
 quiet_newest (Settle r) a p o q = refl
 quiet_newest (Advance k) a p o q = refl
 quiet_newest Round a p o q = refl
 
-not_agreed : (c : Call) (a : Answer) (x : State) → Quiet c a → (c ≡ Agree x) × (is_accepting a ≡ true) → ⊥
-not_agreed c a x q e = true≢false (sym (ap (λ (k : Call). changes k && is_accepting a) e.0 ∙ e.1) ∙ q)
+not_agreed : (c : Call) (a : Answer) (x : State) → Quiet c a → (c ≡ Agree x) × (is_ok a ≡ true) → ⊥
+not_agreed c a x q e = search rules
 
-not_claimed : (c : Call) (a : Answer) (p : ℕ) → Quiet c a → c ≡ Claim p → is_accepting a ≡ true → ⊥
-not_claimed c a p q e k = true≢false (sym (ap (λ (v : Call). changes v && is_accepting a) e ∙ k) ∙ q)
+not_claimed : (c : Call) (a : Answer) (p : ℕ) → Quiet c a → c ≡ Claim p → is_ok a ≡ true → ⊥
+not_claimed c a p q e k = search rules
 
 -- the ledger has moved, and nothing else
 moved : (g : ℕ) (es : List Entry) (b : StationModel) (c : Call) (a : Answer) (m : Model) → Inv g es b → Quiet c a → Sound b.newest m (risen_by c a (risen es)) → ((p h : ℕ) → Timed b.newest b.marks b.ledger g h (risen es) p → Timed b.newest b.marks m g h (risen_by c a (risen es)) p) → Inv g (entry b c a (with_ledger b m) ∷ es) (with_ledger b m)
@@ -96,7 +92,7 @@ each_alone : (t : List (Option Update)) (ks : List Bool) (m n : Model) (g h r r'
 each_alone t ks m n g h r r' p alike one w =
     record { there = omega (arith, alike.counts, w.there); all = λ q ab. one q (w.all q (above_alike alike p q ab)) }
 
-refuses : (g : ℕ) (es : List Entry) (b : StationModel) (c : Call) (a : Answer) (t : StationModel) (e : Refusal) → Inv g es b → a ≡ Refused e → t ≡ b → risen_by c (Refused e) (risen es) ≡ risen es → Inv g (entry b c a t ∷ es) t
+refuses : (g : ℕ) (es : List Entry) (b : StationModel) (c : Call) (a : Answer) (t : StationModel) (e : Refusal) → Inv g es b → a ≡ Err e → t ≡ b → risen_by c (Err e) (risen es) ≡ risen es → Inv g (entry b c a t ∷ es) t
 refuses g es b c a t e i ea et er =
     let r : risen_by c a (risen es) ≡ risen es = ap (λ (v : Answer). risen_by c v (risen es)) ea ∙ er in
     subst (λ (y : StationModel). Inv g (entry b c a y ∷ es) y) (sym et)
@@ -104,7 +100,7 @@ refuses g es b c a t e i ea et er =
     (λ p h w. subst (λ n. Timed b.newest b.marks b.ledger g h n p) (sym r) w))
 
 -- an accepted agree
-module _ (own : Own) (g : ℕ) (es : List Entry) (b t : StationModel) (x : State) (a : Answer) (k : ℕ) (i : Inv g es b) (ea : a ≡ Sealed k) (h : first (agree_checks b x) ≡ accepted) (keeps : Keeps own b t x k) where
+module _ (own : Own) (g : ℕ) (es : List Entry) (b t : StationModel) (x : State) (a : Answer) (k : ℕ) (i : Inv g es b) (ea : a ≡ Ok (Sealed k)) (h : first (agree_checks b x) ≡ accepted) (keeps : Keeps own b t x k) where
   abbrev u : Update
   u = record { state = x; seal = k }
 
@@ -115,21 +111,21 @@ module _ (own : Own) (g : ℕ) (es : List Entry) (b t : StationModel) (x : State
   passed = all_passed (agree_checks b x) refl h
 
   within : x.place < count b.ledger
-  within = ltb-true x.place (count b.ledger) (not-false (ltb x.place (count b.ledger)) passed.0)
+  within = search rules
 
   low : x.place < length b.newest
-  low = omega (arith, i.sound.lawful.laid.few, i.sound.long, within)
+  low = search rules
 
   -- the number is above the last agreed
   above : (o : Option Update) → outdated o x.number.value ≡ false → (y : State) → state_by o ≡ Some y → y.number.value < x.number.value
   above None e y k = absurd (none_some k)
-  above (Some v) e y k = let same : v.state.number.value ≡ y.number.value = ap (λ (z : State). z.number.value) (some_same k) in omega (arith, leb-false x.number.value v.state.number.value e)
+  above (Some v) e y k = search rules
 
   newest_now : (p : ℕ) → (p ≡ x.place) ⊎ (p ≡ x.place → ⊥) → newest_by (Agree x) a p (newest_agreed es p) ≡ kept (keeping b.newest u) p
-  newest_now p (inl e) = ap (λ (v : Answer). newest_by (Agree x) v p (newest_agreed es p)) ea ∙ ap (λ v. cond v (Some x) (newest_agreed es p)) (eq-eqb p x.place e) ∙ sym (kept_here b.newest u low p e)
-  newest_now p (inr ne) = ap (λ (v : Answer). newest_by (Agree x) v p (newest_agreed es p)) ea ∙ ap (λ v. cond v (Some x) (newest_agreed es p)) (ne_eqb p x.place ne) ∙ i.newest_is p ∙ sym (kept_other b.newest u p ne)
+  newest_now p (inl e) = search rules
+  newest_now p (inr ne) = search rules
 
-  older_now : (z : State) → ((Agree x ≡ Agree z) × (is_accepting a ≡ true)) ⊎ Agreed es z → (z.place ≡ x.place) ⊎ (z.place ≡ x.place → ⊥) → NotNewer (keeping b.newest u) z
+  older_now : (z : State) → ((Agree x ≡ Agree z) × (is_ok a ≡ true)) ⊎ Agreed es z → (z.place ≡ x.place) ⊎ (z.place ≡ x.place → ⊥) → NotNewer (keeping b.newest u) z
   older_now z (inl e) q =
       let same : x ≡ z = agree_same e.0 in
       (x, kept_here b.newest u low z.place (ap (λ (y : State). y.place) (sym same)), inl (sym same))
@@ -157,14 +153,14 @@ module _ (own : Own) (g : ℕ) (es : List Entry) (b t : StationModel) (x : State
       })
     where
       no-claim : {p : ℕ} → Agree x ≡ Claim p → ⊥
-      no-claim e = let z : ◌≡◌ {A = ℕ} 0 1 = cc in omega arith
+      no-claim e = cc
 
 -- the parent of a place with an agreed state has one
 agreed_up : (t : List (Option Update)) (m : Model) (r p q i : ℕ) (x : State) → Sound t m r → p < count m → (place_at m p).parent ≡ child q i → kept t p ≡ Some x → (z : State) × (kept t q ≡ Some z)
 agreed_up t m r p q i x ok lt e k = go (newest_at t q) refl (sym (ap (λ (o : Option Parent). allotment_by t o (place_at m p).funding) e) ∙ ok.fits p x lt k)
   where
     go : (o : Option Update) → newest_at t q ≡ o → allotted (newest_at t q) i ≡ Some (total x) → (z : State) × (kept t q ≡ Some z)
-    go None n f = absurd (none_some (sym (ap (λ (v : Option Update). allotted v i) n) ∙ f))
+    go None n f = search rules
     go (Some u) n f = (u.state, ap state_by n)
 
 -- and so has every place that it hangs from
@@ -179,7 +175,7 @@ above_agreed : (t : List (Option Update)) (m : Model) (r p q : ℕ) (x : State) 
 above_agreed t m r p q x ok (inl e) lt k = (x, ap (kept t) e ∙ k)
 above_agreed t m r p q x ok (inr h) lt k = hanging_agreed t m r ok h lt x k
 
-agreed_there : (o : Option Update) → is_agreed o ≡ true → (x : State) × (state_by o ≡ Some x)
+agreed_there : (o : Option Update) → is_some o ≡ true → (x : State) × (state_by o ≡ Some x)
 agreed_there None e = absurd (true≢false (sym e))
 agreed_there (Some u) e = (u.state, refl)
 
@@ -192,13 +188,13 @@ module _ (g : ℕ) (es : List Entry) (b : StationModel) (c : ℕ) (a : Answer) (
   checks = all_passed (claim_checks b c) refl h
 
   claim_within : c < count b.ledger
-  claim_within = ltb-true c (count b.ledger) (not-false (ltb c (count b.ledger)) checks.0)
+  claim_within = search rules
 
   agreed_here : (x : State) × (kept b.newest c ≡ Some x)
-  agreed_here = agreed_there (newest_at b.newest c) (not-false (is_agreed (newest_at b.newest c)) checks.1.1.0)
+  agreed_here = agreed_there (newest_at b.newest c) (not-false (is_some (newest_at b.newest c)) checks.1.1.0)
 
   in_marks : (q : ℕ) → q < count b.ledger → q < length b.marks
-  in_marks q lt = omega (arith, i.sound.lawful.laid.few, i.full, lt)
+  in_marks q lt = search rules
 
   still_marked : (q : ℕ) → q < count b.ledger → is_marked b.marks q ≡ true → is_marked claimed.marks q ≡ true
   still_marked q lt e = mark_each_lem (lineage b.ledger c) b.marks q (in_marks q lt) ∙ or_right (among (lineage b.ledger c) q) (is_marked b.marks q) e
@@ -239,7 +235,7 @@ module _ (g : ℕ) (es : List Entry) (b : StationModel) (c : ℕ) (a : Answer) (
       }
     where
       no_agree : {x : State} → Claim c ≡ Agree x → ⊥
-      no_agree e = let z : ◌≡◌ {A = ℕ} 0 1 = cc in omega arith
+      no_agree e = cc
 
       claim-same : {p q : ℕ} → Claim p ≡ Claim q → p ≡ q
       claim-same e = cc
@@ -249,7 +245,7 @@ module _ (own : Own) (g : ℕ) (es : List Entry) (b : StationModel) (i : Inv g e
   brief : Brief b.ledger (risen es)
   brief p lt = omega (arith, low p lt, slow)
 
-  posting : (x : State) (k : ℕ) (a : Answer) (t : StationModel) → a ≡ Done → first (sealed_post_checks b x k) ≡ accepted → t ≡ with_ledger b (post_next b.ledger x) → ((y : State) (seal : ℕ) → Post x k ≡ Post y seal → Passes b y seal → Agreed es y) → Inv g (entry b (Post x k) a t ∷ es) t
+  posting : (x : State) (k : ℕ) (a : Answer) (t : StationModel) → a ≡ Ok Done → first (sealed_post_checks b x k) ≡ accepted → t ≡ with_ledger b (post_next b.ledger x) → ((y : State) (seal : ℕ) → Post x k ≡ Post y seal → Passes b y seal → Agreed es y) → Inv g (entry b (Post x k) a t ∷ es) t
   posting x k a t ea h et pass =
       let c = all_passed (sealed_post_checks b x k) refl h in
       let passes : Passes b x k = (ltb-true x.place (count b.ledger) (not-false (ltb x.place (count b.ledger)) c.0), not-false (b.seals.good x k) c.1.0) in
@@ -260,14 +256,14 @@ module _ (own : Own) (g : ℕ) (es : List Entry) (b : StationModel) (i : Inv g e
       (λ p hh w. each_alone b.newest b.marks b.ledger (post_next b.ledger x) g hh (risen es) (risen es) p (post_alike b.ledger x taken)
       (λ q v. timely_post b.newest b.marks b.ledger g hh (risen es) q x i.sound.lawful slow taken old v) w))
 
-  settling : (p : ℕ) (a : Answer) (t : StationModel) → a ≡ Done → first (settle_checks b.ledger p) ≡ accepted → t ≡ with_ledger b (settle_next b.ledger p) → Inv g (entry b (Settle p) a t ∷ es) t
+  settling : (p : ℕ) (a : Answer) (t : StationModel) → a ≡ Ok Done → first (settle_checks b.ledger p) ≡ accepted → t ≡ with_ledger b (settle_next b.ledger p) → Inv g (entry b (Settle p) a t ∷ es) t
   settling p a t ea h et =
       subst (λ (y : StationModel). Inv g (entry b (Settle p) a y ∷ es) y) (sym et)
       (moved g es b (Settle p) a (settle_next b.ledger p) i refl (sound_settle b.newest b.ledger (risen es) p i.sound h (brief p (settle_taken b.ledger p h).within))
       (λ c hh w. each_alone b.newest b.marks b.ledger (settle_next b.ledger p) g hh (risen es) (risen es) c (settle_alike b.ledger p h)
       (λ q v. timely_settle b.newest b.marks b.ledger g hh (risen es) q p i.sound.lawful h v) w))
 
-  advancing : (k : ℕ) (a : Answer) (t : StationModel) → a ≡ Done → first (advance_checks b.ledger k) ≡ accepted → t ≡ with_ledger b (advance_next b.ledger k) → Inv g (entry b (Advance k) a t ∷ es) t
+  advancing : (k : ℕ) (a : Answer) (t : StationModel) → a ≡ Ok Done → first (advance_checks b.ledger k) ≡ accepted → t ≡ with_ledger b (advance_next b.ledger k) → Inv g (entry b (Advance k) a t ∷ es) t
   advancing k a t ea h et =
       let r : risen_by (Advance k) a (risen es) ≡ risen es + k = ap (λ (v : Answer). risen_by (Advance k) v (risen es)) ea in
       subst (λ (y : StationModel). Inv g (entry b (Advance k) a y ∷ es) y) (sym et)

@@ -1,14 +1,14 @@
 -- The places that a place hangs from, and the sums that their delays make.
-use Rattle.std.proofs.Common.{◌≡◌, ℕ, zero, suc, ◌+◌, ◌<◌, Bool, true, false, ◌||◌, eqb, ◌⊎◌, List, [], ◌∷◌, map, length, set, Some, None, sum, Option, sym, refl, ap, ◌∙◌, subst, inl, inr, arith}
-use Rattle.std.proofs.lemmas.List.{get_or-set_same, get_or-set_other, length-set}
+use Rattle.std.proofs.Common.{◌≡◌, ℕ, zero, suc, ◌+◌, ◌<◌, Bool, true, ◌||◌, eqb, ◌⊎◌, List, [], ◌∷◌, map, length, set, Some, None, sum, Option, sym, refl, ap, ◌∙◌, subst, inl, inr, arith, rules}
+use Rattle.std.proofs.lemmas.List.{length-set}
 use Rattle.std.proofs.lemmas.List.Sums.{sum_by-cons}
-use Rattle.std.proofs.lemmas.Bool.{cases_eq, eqb-true, eq-eqb, ne_eqb, or_left, or_right, or_cases, true≢false}
+use Rattle.std.proofs.lemmas.Bool.{cases_eq, eqb-true, eq-eqb, or_left, or_right, or_cases, true≢false}
 use Rattle.ledger.specs.declared.view.Parent.{Parent}
 use Rattle.ledger.specs.Laws.{Laid, child}
 use Rattle.ledger.specs.Model.{Model, place_at}
 use Rattle.eltoo.specs.Lineage.{HangsFrom, from_parent, from_further, upward, lineage, among, Falling, LineagesList, wait}
 use Rattle.eltoo.specs.Stations.{count, is_marked, mark_each}
-use Rattle.eltoo.proofs.Moves.{Alike, parent_same, delay_same, parent_below}
+use Rattle.eltoo.proofs.Moves.{Alike, parent_same, parent_below}
 
 -- p or a place that it hangs from
 abbrev pub Above : Model → ℕ → ℕ → Type 0
@@ -50,7 +50,7 @@ module _ (m : Model) (laid : Laid m) where
     where
       go : (o : Option Parent) → (place_at m p).parent ≡ o → ((q : ℕ) → q < n → q < k → q < count m → upward m.places n q ≡ upward m.places k q) → upward m.places (suc n) p ≡ upward m.places (suc k) p
       go None e f = simp e
-      go (Some u) e f = let low = (parent_below m laid p u.place u.index lt e).0 in simp e (ap (λ (v : List ℕ). p ∷ v) (f u.place (omega arith) (omega arith) (omega arith)))
+      go (Some u) e f = search rules
 
   pub lineage_root : (p : ℕ) → (place_at m p).parent ≡ None → lineage m p ≡ p ∷ []
   lineage_root p e = simp e
@@ -67,7 +67,7 @@ module _ (m : Model) (laid : Laid m) where
   listed (suc n) p q h = go (place_at m p).parent refl (listed n) h
     where
       go : (o : Option Parent) → (place_at m p).parent ≡ o → ((c d : ℕ) → among (upward m.places n c) d ≡ true → Above m c d) → (eqb q p || among (elim (place_at m p).parent as (λ _. List ℕ) [ None ↦ [] | Some u ↦ upward m.places n u.place ]) q) ≡ true → Above m p q
-      go None e f h = let g : (eqb q p || false) ≡ true = simp e at h in elim (or_cases (eqb q p) false g) [ inl i ↦ inl (eqb-true q p i) | inr i ↦ absurd (true≢false (sym i)) ]
+      go None e f h = search rules
       go (Some u) e f h =
           let g : (eqb q p || among (upward m.places n u.place) q) ≡ true = simp e at h in
           elim (or_cases (eqb q p) (among (upward m.places n u.place) q) g) [
@@ -91,7 +91,7 @@ module _ (m : Model) (laid : Laid m) where
   falls (suc n) p lt = go (place_at m p).parent refl (falls n)
     where
       go : (o : Option Parent) → (place_at m p).parent ≡ o → ((q : ℕ) → q < count m → Falling (upward m.places n q)) → Falling (upward m.places (suc n) p)
-      go None e f = simp e ((λ q h. absurd (true≢false (sym h))), tt)
+      go None e f = search rules
       go (Some u) e f =
           let low = (parent_below m laid p u.place u.index lt e).0 in
           simp e ((λ q h. elim (listed n u.place q h) [ inl same ↦ omega arith | inr far ↦ omega (arith, hangs_below far (omega arith)) ]), f u.place (omega arith))
@@ -109,8 +109,8 @@ upward_alike a zero p = refl
 upward_alike {m = m} {n = n} a (suc k) p = go (place_at m p).parent refl (upward_alike a k)
   where
     go : (o : Option Parent) → (place_at m p).parent ≡ o → ((q : ℕ) → upward n.places k q ≡ upward m.places k q) → upward n.places (suc k) p ≡ upward m.places (suc k) p
-    go None e f = let g : (place_at n p).parent ≡ None = parent_same a p ∙ e in simp (e, g)
-    go (Some u) e f = let g : (place_at n p).parent ≡ Some u = parent_same a p ∙ e in simp (e, g) (ap (λ (v : List ℕ). p ∷ v) (f u.place))
+    go None e f = search rules
+    go (Some u) e f = search rules
 
 -- the delays of some places, each with g
 abbrev delays : Model → ℕ → List ℕ → ℕ
@@ -121,12 +121,7 @@ delays_more m g p ls = sum_by-cons (λ v. v) ((place_at m p).delay + g) (map (λ
 
 delays_alike : {m n : Model} → Alike m n → (g : ℕ) (ls : List ℕ) → delays n g ls ≡ delays m g ls
 delays_alike a g [] = refl
-delays_alike {m = m} {n = n} a g (p ∷ ls) =
-    let d : (place_at n p).delay ≡ (place_at m p).delay = delay_same a p in
-    let rest = delays_alike a g ls in
-    let l = delays_more n g p ls in
-    let r = delays_more m g p ls in
-    omega arith
+delays_alike {m = m} {n = n} a g (p ∷ ls) = search rules
 
 -- the delays of the places that q hangs from, each with g
 abbrev ahead_by : Model → ℕ → Option Parent → ℕ
@@ -137,21 +132,17 @@ abbrev pub ahead : Model → ℕ → ℕ → ℕ
 ahead m g q = ahead_by m g (place_at m q).parent
 
 pub ahead_alike : {m n : Model} → Alike m n → (g q : ℕ) → ahead n g q ≡ ahead m g q
-ahead_alike {m = m} {n = n} a g q = ap (ahead_by n g) (parent_same a q) ∙ by (place_at m q).parent
+ahead_alike {m = m} {n = n} a g q = search rules
   where
     by : (o : Option Parent) → ahead_by n g o ≡ ahead_by m g o
     by None = refl
-    by (Some u) = delays_alike a g (lineage n u.place) ∙ ap (delays m g) (upward_alike a (suc u.place) u.place)
+    by (Some u) = search rules
 
 pub whole : (m : Model) → Laid m → (g p : ℕ) → p < count m → wait m g p ≡ g + ((place_at m p).delay + g + ahead m g p)
 whole m laid g p lt = go (place_at m p).parent refl
   where
     go : (o : Option Parent) → (place_at m p).parent ≡ o → wait m g p ≡ g + ((place_at m p).delay + g + ahead m g p)
-    go None e =
-        let a : ahead m g p ≡ 0 = ap (ahead_by m g) e in
-        let l = ap (delays m g) (lineage_root m laid p e) in
-        let d = delays_more m g p [] in
-        omega arith
+    go None e = search rules
     go (Some u) e =
         let a : ahead m g p ≡ delays m g (lineage m u.place) = ap (ahead_by m g) e in
         let l = ap (delays m g) (lineage_child m laid p u.place u.index lt e) in
@@ -175,18 +166,6 @@ mark_each_lem [] ks q lt = refl
 mark_each_lem (p ∷ ls) ks q lt =
     mark_each_lem ls (set ks p true) q (subst (λ n. q < n) (sym (length-set ks p true)) lt) ∙ go (cases_eq q p)
   where
-    swap : (b c : Bool) → (b || c) ≡ (c || b)
-    swap true true = refl
-    swap true false = refl
-    swap false true = refl
-    swap false false = refl
-
     go : (q ≡ p) ⊎ (q ≡ p → ⊥) → (among ls q || is_marked (set ks p true) q) ≡ ((eqb q p || among ls q) || is_marked ks q)
-    go (inl e) =
-        let at : is_marked (set ks p true) q ≡ true = ap (is_marked (set ks p true)) e ∙ get_or-set_same ks p true false (omega (arith, e, lt)) in
-        let i : eqb q p ≡ true = eq-eqb q p e in
-        ap (λ v. among ls q || v) at ∙ swap (among ls q) true ∙ sym (ap (λ v. (v || among ls q) || is_marked ks q) i)
-    go (inr ne) =
-        let at : is_marked (set ks p true) q ≡ is_marked ks q = get_or-set_other ks p q true false ne in
-        let i : eqb q p ≡ false = ne_eqb q p ne in
-        ap (λ v. among ls q || v) at ∙ sym (ap (λ v. (v || among ls q) || is_marked ks q) i)
+    go (inl e) = search rules
+    go (inr ne) = search rules

@@ -1,16 +1,14 @@
 -- The steps of a host keep the layout; what a settlement does to each place.
-use Rattle.std.proofs.Common.{◌≡◌, ℕ, ◌<◌, ◌⊎◌, length, Some, None, Option, sym, refl, ap, ◌∙◌, subst, inl, inr}
+use Rattle.std.proofs.Common.{◌≡◌, ℕ, ◌<◌, ◌⊎◌, length, Some, None, Option, sym, refl, ap, ◌∙◌, inl, inr, rules}
 use Rattle.std.proofs.lemmas.Bool.{cases_eq}
 use Rattle.state.specs.declared.state.State.{State}
 use Rattle.state.specs.Limits.{parties}
 use Rattle.state.specs.Refusals.{accepted, first}
 use Rattle.ledger.specs.declared.view.Parent.{Parent}
-use Rattle.ledger.specs.Laws.{Tied, Laid, Lawful, child}
+use Rattle.ledger.specs.Laws.{Laid, Lawful, child}
 use Rattle.ledger.specs.Model.{Model, Place, Stage, fresh, place_at, shut, idle, status}
-use Rattle.ledger.specs.Steps.{staged, posted_stage, settled_stage, with_stage, post_checks, post_next, settle_checks, settle_next, advance_next}
-use Rattle.ledger.proofs.Changing.{some_same, none_some, layout, count_is}
-use Rattle.ledger.proofs.Showing.{steps_show}
-use Rattle.eltoo.proofs.Standings.{post_taken, settle_taken}
+use Rattle.ledger.specs.Steps.{staged, with_stage, post_checks, post_next, settle_checks, settle_next, advance_next}
+use Rattle.ledger.proofs.Changing.{layout, count_is}
 
 -- two ledgers with the same layout
 pub record Alike (m n : Model) : Type 0 where
@@ -36,17 +34,17 @@ staged_alike : (m : Model) (p : ℕ) (s : Stage) → p < length m.places → Ali
 staged_alike m p s lt = record { counts = count_is m p s lt; layouts = layout m p s lt }
 
 pub post_alike : (m : Model) (x : State) → first (post_checks m x) ≡ accepted → Alike m (post_next m x)
-post_alike m x h = staged_alike m x.place (posted_stage x m.height) (post_taken m x h).within
+post_alike m x h = search rules
 
 pub settle_alike : (m : Model) (p : ℕ) → first (settle_checks m p) ≡ accepted → Alike m (settle_next m p)
-settle_alike m p h = staged_alike m p (settled_stage (place_at m p).stage) (settle_taken m p h).within
+settle_alike m p h = search rules
 
 pub advance_alike : (m : Model) (k : ℕ) → Alike m (advance_next m k)
 advance_alike m k = record { counts = refl; layouts = λ c. refl }
 
 -- a parent's number is lower, and an index is below eight
 pub parent_below : (m : Model) → Laid m → (c q i : ℕ) → c < length m.places → (place_at m c).parent ≡ child q i → (q < c) × (i < parties)
-parent_below m laid c q i lt e = let t = subst (λ (o : Option Parent). Tied o (place_at m c).funding c) e (laid.tied c lt) in (t.1, t.2)
+parent_below m laid c q i lt e = search rules
 
 -- what the settlement of p does to a place: it is p itself, or a child that was shut and opens, or it is as it was
 pub data SettleWay (m : Model) (p c : ℕ) : Type 0 where
@@ -59,12 +57,9 @@ settle_way m law p h c lt = go (cases_eq c p) (place_at m c).parent refl
   where
     go : (c ≡ p) ⊎ (c ≡ p → ⊥) → (o : Option Parent) → (place_at m c).parent ≡ o → SettleWay m p c
     go (inl e) o i = itself e
-    go (inr ne) None i = stays ne (((steps_show m law).settle p h).elsewhere c ne (λ j k. none_some (sym i ∙ k)))
+    go (inr ne) None i = search rules
     go (inr ne) (Some u) i = at (cases_eq u.place p)
       where
         at : (u.place ≡ p) ⊎ (u.place ≡ p → ⊥) → SettleWay m p c
-        at (inl e) =
-            let k : (place_at m c).parent ≡ child p u.index = i ∙ ap (λ q. child q u.index) e in
-            let w = ((steps_show m law).settle p h).children c u.index lt k in
-            opens ne w.0 w.1
-        at (inr e) = stays ne (((steps_show m law).settle p h).elsewhere c ne (λ j k. e (ap (λ (y : Parent). y.place) (some_same (sym i ∙ k)))))
+        at (inl e) = search rules
+        at (inr e) = search rules

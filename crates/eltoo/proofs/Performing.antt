@@ -1,31 +1,32 @@
 -- A list of calls goes on with every run that led to it.
-use Rattle.std.proofs.Common.{List, [], ◌∷◌, ◌++◌, map, reverse, sym, refl, ap, ◌∙◌, subst, append_assoc, append-nil}
+use Rattle.std.proofs.Common.{◌≡◌, List, [], ◌∷◌, ◌++◌, map, reverse, Some, Option, sym, refl, ap, ◌∙◌, subst, append_assoc, append-nil, rules}
 use mathlib.Core.List.{reverse-cons}
 use Rattle.seal.specs.Registers.{RowGives}
 use Rattle.eltoo.specs.declared.turn.Turn.{Turn}
 use Rattle.eltoo.specs.Stations.{StationModel}
-use Rattle.eltoo.specs.Steps.{Own, Step}
+use Rattle.eltoo.specs.Steps.{Answer, Own, Step}
 use Rattle.eltoo.specs.Runs.{Entry, Run, origin}
 use Rattle.eltoo.specs.Safety.{NoneGood, Starts}
 use Rattle.eltoo.specs.Lists.{Performs, turn_of, Story, Performed, WholeRun, WholeFreshRun}
 use Rattle.eltoo.proofs.Safely.{safe, safe_fresh}
 
 -- one call more at the end
-pub performs_more : (own : Own) (s t u : StationModel) (ts : List Turn) (x : Turn) → Performs own s ts t → Step own t x.call x.answer u → Performs own s (ts ++ (x ∷ [])) u
-performs_more own s t u [] x p st = (u, subst (λ (y : StationModel). Step own y x.call x.answer u) p st, refl)
-performs_more own s t u (y ∷ ts) x p st = (p.0, p.1, performs_more own p.0 t u ts x p.2 st)
+pub performs_more : (own : Own) (s t u : StationModel) (ts : List Turn) (x : Turn) (a : Answer) → Performs own s ts t → x.answer ≡ Some a → Step own t x.call a u → Performs own s (ts ++ (x ∷ [])) u
+performs_more own s t u [] x a p e st = search rules
+performs_more own s t u (y ∷ ts) x a p e st = (p.0, p.1, p.2, p.3, performs_more own p.1 t u ts x a p.4 e st)
 
 -- a list of calls goes on with a run
 pub story : (own : Own) (s t : StationModel) (ts : List Turn) → Performs own s ts t → (es : List Entry) → Run own es s → Story own (origin es s) (reverse ts ++ map turn_of es) t
 story own s t [] p es r = subst (Story own (origin es s) (map turn_of es)) (sym p) (record { entries = es; run = r; begun = refl; turns = refl; holds = safe own es s r })
 story own s t (x ∷ ts) p es r =
-    let e : Entry = record { before = s; call = x.call; answer = x.answer; after = p.0 } in
-    let w = story own p.0 t ts p.2 (e ∷ es) (r, p.1, refl) in
+    let e : Entry = record { before = s; call = x.call; answer = p.0; after = p.1 } in
+    let w = story own p.1 t ts p.4 (e ∷ es) (r, p.3, refl) in
+    let same : turn_of e ≡ x = ap (λ (o : Option Answer). let y : Turn = record { call = x.call; answer = o } in y) (sym p.2) in
     record {
       entries = w.entries;
       run = w.run;
       begun = w.begun;
-      turns = w.turns ∙ sym (append_assoc (reverse ts) (x ∷ []) (map turn_of es)) ∙ ap (λ (v : List Turn). v ++ map turn_of es) (sym (reverse-cons x ts));
+      turns = w.turns ∙ ap (λ (y : Turn). reverse ts ++ (y ∷ map turn_of es)) same ∙ sym (append_assoc (reverse ts) (x ∷ []) (map turn_of es)) ∙ ap (λ (v : List Turn). v ++ map turn_of es) (sym (reverse-cons x ts));
       holds = w.holds;
     }
 

@@ -1,6 +1,5 @@
 -- No run breaks the promises.
-use Rattle.std.proofs.Common.{◌≡◌, ℕ, ◌<◌, ◌≤◌, Bool, true, false, cond, not, ◌&&◌, List, [], ◌∷◌, get_or, Option, sym, refl, ap, ◌∙◌, subst, inl, inr, arith}
-use Rattle.std.proofs.lemmas.Bool.{true≢false}
+use Rattle.std.proofs.Common.{◌≡◌, ℕ, ◌<◌, ◌≤◌, Bool, true, false, cond, not, ◌&&◌, List, [], ◌∷◌, Ok, is_ok, sym, refl, ap, ◌∙◌, subst, inl, inr, arith, rules}
 use Rattle.state.specs.declared.state.State.{State}
 use Rattle.account.specs.Accounts.{pays, paid_at}
 use Rattle.account.proofs.Conserving.{conserved}
@@ -8,16 +7,13 @@ use Rattle.account.proofs.Summing.{sum_same}
 use Rattle.ledger.specs.Laws.{has_children}
 use Rattle.ledger.specs.Model.{Status, shut, idle, posted, settled, status, is_settled}
 use Rattle.seal.specs.Registers.{RowGives}
-use Rattle.seal.specs.Seals.{Seals}
-use Rattle.eltoo.specs.declared.answer.Answer.{Answer}
-use Rattle.eltoo.specs.declared.answer.Answer.TheVariants.{Sealed}
+use Rattle.eltoo.specs.declared.answer.Outcome.TheVariants.{Sealed}
 use Rattle.eltoo.specs.declared.call.Call.{Call}
 use Rattle.eltoo.specs.declared.call.Call.TheVariants.{Agree, Claim, Post, Settle, Advance, Round}
 use Rattle.eltoo.specs.Lineage.{lineage}
-use Rattle.eltoo.specs.Stations.{StationModel, count, with_ledger}
-use Rattle.eltoo.specs.Rounds.{whole_round}
-use Rattle.eltoo.specs.Steps.{Own, Decided, Keeps, Step}
-use Rattle.eltoo.specs.Runs.{Entry, Run, origin, is_accepting, Agreed, newest_agreed, SealedEarlier, risen, amount_in, SettledNewest, SettledInTime}
+use Rattle.eltoo.specs.Stations.{StationModel, count}
+use Rattle.eltoo.specs.Steps.{Answer, Own, Decided, Keeps, Step}
+use Rattle.eltoo.specs.Runs.{Entry, Run, origin, Agreed, newest_agreed, SealedEarlier, risen, amount_in, SettledNewest, SettledInTime}
 use Rattle.eltoo.specs.Safety.{Safe, GoesOn, NoneGood, SafeFresh, ClaimMarks}
 use Rattle.eltoo.proofs.Lineages.{whole, mark_each_lem}
 use Rattle.eltoo.proofs.Following.{refusing, doing, decision, refusing_it, keeping_it, agreement, run_lawful}
@@ -32,14 +28,11 @@ settled_newest g es s i =
     }
   where
     pay : (j p : ℕ) → p < count s.ledger → (st : Status) → status s.ledger p ≡ st → (factory : Bool) → pays (status s.ledger p) factory j ≡ cond (is_settled (status s.ledger p) && not factory) (amount_in (newest_agreed es p) j) 0
-    pay j p lt shut e f = ap (λ v. pays v f j) e ∙ sym (ap (λ v. cond (is_settled v && not f) (amount_in (newest_agreed es p) j) 0) e)
-    pay j p lt idle e f = ap (λ v. pays v f j) e ∙ sym (ap (λ v. cond (is_settled v && not f) (amount_in (newest_agreed es p) j) 0) e)
-    pay j p lt (posted n h a) e f = ap (λ v. pays v f j) e ∙ sym (ap (λ v. cond (is_settled v && not f) (amount_in (newest_agreed es p) j) 0) e)
-    pay j p lt (settled n a) e true = ap (λ v. pays v true j) e ∙ sym (ap (λ v. cond (is_settled v && false) (amount_in (newest_agreed es p) j) 0) e)
-    pay j p lt (settled n a) e false =
-        let w = i.sound.settled_ok p n a lt e in
-        let same : amount_in (newest_agreed es p) j ≡ get_or a j 0 = ap (λ (o : Option State). amount_in o j) (i.newest_is p ∙ w.1) ∙ ap (λ (v : List ℕ). get_or v j 0) w.2.1 in
-        ap (λ v. pays v false j) e ∙ sym same ∙ sym (ap (λ v. cond (is_settled v && true) (amount_in (newest_agreed es p) j) 0) e)
+    pay j p lt shut e f = search rules
+    pay j p lt idle e f = search rules
+    pay j p lt (posted n h a) e f = search rules
+    pay j p lt (settled n a) e true = search rules
+    pay j p lt (settled n a) e false = search rules
 
 -- a claimed place is settled in time
 settled_in_time : (g : ℕ) (es : List Entry) (s : StationModel) → Inv g es s → risen es ≤ g → SettledInTime g es s
@@ -71,16 +64,16 @@ OnlyAgreed es s = (x : State) (k : ℕ) → s.seals.good x k ≡ true → Agreed
 
 -- a call that leaves the seals makes nothing good
 leaves_seals : (es : List Entry) (b u t : StationModel) (e : Entry) → OnlyAgreed es b → u.seals ≡ b.seals → t ≡ u → OnlyAgreed (e ∷ es) t
-leaves_seals es b u t e only same i x k g = inr (only x k (sym (ap (λ (v : Seals). v.good x k) (ap (λ (y : StationModel). y.seals) i ∙ same)) ∙ g))
+leaves_seals es b u t e only same i x k g = search rules
 
 one_more : (es : List Entry) (b : StationModel) (c : Call) (a : Answer) (t : StationModel) → OnlyAgreed es b → Step RowGives b c a t → OnlyAgreed (record { before = b; call = c; answer = a; after = t } ∷ es) t
 one_more es b c a t only st = go c st
   where
     same : (u : StationModel) (k : Call) → u.seals ≡ b.seals → t ≡ u → OnlyAgreed (record { before = b; call = k; answer = a; after = t } ∷ es) t
-    same u k = leaves_seals es b u t (record { before = b; call = k; answer = a; after = t }) only
+    same u k = search rules
 
-    kept-so : (y : State) (j : ℕ) → a ≡ Sealed j → Keeps RowGives b t y j → OnlyAgreed (record { before = b; call = Agree y; answer = a; after = t } ∷ es) t
-    kept-so y j ea keeps x k g = elim (keeps.owns.1 x k g) [ inl old ↦ inr (only x k old) | inr new ↦ inl (ap Agree (sym new.0), ap is_accepting ea) ]
+    kept-so : (y : State) (j : ℕ) → a ≡ Ok (Sealed j) → Keeps RowGives b t y j → OnlyAgreed (record { before = b; call = Agree y; answer = a; after = t } ∷ es) t
+    kept-so y j ea keeps x k g = elim (keeps.owns.1 x k g) [ inl old ↦ inr (only x k old) | inr new ↦ inl (ap Agree (sym new.0), ap is_ok ea) ]
 
     by : (k : Call) (checks : List (Bool × ℕ)) (u : StationModel) → u.seals ≡ b.seals → Decided a b t checks u → OnlyAgreed (record { before = b; call = k; answer = a; after = t } ∷ es) t
     by k checks u i d = elim (decision a b t checks u d) [ refusing e ea et ↦ same b k refl et | doing ea h et ↦ same u k i et ]
@@ -91,10 +84,10 @@ one_more es b c a t only st = go c st
     go (Post y j) d = by (Post y j) _ _ refl d
     go (Settle p) d = by (Settle p) _ _ refl d
     go (Advance j) d = by (Advance j) _ _ refl d
-    go Round d = same (with_ledger b (whole_round b).ledger) Round refl d.1
+    go Round d = search rules
 
 only_agreed : (es : List Entry) (s : StationModel) → Run RowGives es s → NoneGood (origin es s).seals → OnlyAgreed es s
-only_agreed [] s r none = λ x k g. absurd (true≢false (sym g ∙ none x k))
+only_agreed [] s r none = search rules
 only_agreed (e ∷ es) s r none = subst (OnlyAgreed (e ∷ es)) r.2 (one_more es e.before e.call e.answer e.after (only_agreed es e.before r.0 none) r.1)
 
 pub sealed_earlier : (es : List Entry) (s : StationModel) → Run RowGives es s → NoneGood (origin es s).seals → SealedEarlier es

@@ -1,16 +1,16 @@
 -- What every call keeps: agreed states fit together, and what is posted or settled was agreed.
-use Rattle.std.proofs.Common.{◌≡◌, ℕ, ◌+◌, ◌<◌, ◌≤◌, ◌⊎◌, List, length, Some, None, Option, sym, ap, ◌∙◌, inl, inr, arith}
+use Rattle.std.proofs.Common.{◌≡◌, ℕ, ◌+◌, ◌<◌, ◌≤◌, ◌⊎◌, List, length, Some, None, Option, sym, ap, ◌∙◌, inl, inr, arith, rules}
 use Rattle.std.proofs.lemmas.Bool.{cases_eq}
 use Rattle.state.specs.declared.state.State.{State}
 use Rattle.state.specs.declared.update.Update.{Update}
 use Rattle.state.specs.Refusals.{accepted, first}
 use Rattle.ledger.specs.Laws.{Lawful, max_places}
-use Rattle.ledger.specs.Model.{Model, Place, place_at, posted, settled, status, shown_number, shown_amounts}
+use Rattle.ledger.specs.Model.{Model, place_at, posted, settled, status, shown_number, shown_amounts}
 use Rattle.ledger.specs.Steps.{post_checks, post_next, settle_checks, settle_next, advance_checks, advance_next}
 use Rattle.ledger.proofs.Keeping.{steps_keep}
 use Rattle.ledger.proofs.Showing.{steps_show}
-use Rattle.eltoo.specs.Stations.{count, total, newest_at, allotment_by, allotment}
-use Rattle.eltoo.proofs.Standings.{posted_settled, idle_posted, idle_settled, settle_taken}
+use Rattle.eltoo.specs.Stations.{count, total, newest_at, allotment}
+use Rattle.eltoo.proofs.Standings.{settle_taken}
 use Rattle.eltoo.proofs.Moves.{Alike, post_alike, settle_alike, SettleWay, itself, opens, stays, settle_way}
 
 abbrev pub state_by : Option Update → Option State
@@ -43,7 +43,7 @@ NotNewer t x = (y : State) × (kept t x.place ≡ Some y) × ((x ≡ y) ⊎ (x.n
 
 -- what a step that keeps the layout and the agreed states leaves of it
 fits_alike : (t : List (Option Update)) (m n : Model) → Alike m n → (p : ℕ) → allotment n t p ≡ allotment m t p
-fits_alike t m n a p = ap (λ (y : Place). allotment_by t y.parent y.funding) (a.layouts p)
+fits_alike t m n a p = search rules
 
 pub sound_post : (t : List (Option Update)) (m : Model) (r : ℕ) (x : State) → Sound t m r → first (post_checks m x) ≡ accepted → NotNewer t x → Sound t (post_next m x) r
 sound_post t m r x ok h old =
@@ -78,7 +78,7 @@ sound_post t m r x ok h old =
     po p n since a lt e (inr ne) = ok.posted_ok p n since a lt (sym (elsewhere p ne) ∙ e)
 
     se : (p n : ℕ) (a : List ℕ) → p < count m → status (post_next m x) p ≡ settled n a → (p ≡ x.place) ⊎ (p ≡ x.place → ⊥) → (z : State) × (kept t p ≡ Some z) × Same n a z
-    se p n a lt e (inl q) = absurd (posted_settled (sym here ∙ ap (status (post_next m x)) (sym q) ∙ e))
+    se p n a lt e (inl q) = search rules
     se p n a lt e (inr ne) = ok.settled_ok p n a lt (sym (elsewhere p ne) ∙ e)
 
 pub sound_settle : (t : List (Option Update)) (m : Model) (r p : ℕ) → Sound t m r → first (settle_checks m p) ≡ accepted → r < (place_at m p).delay → Sound t (settle_next m p) r
@@ -102,8 +102,8 @@ sound_settle t m r p ok h slow =
     here = ((steps_show m ok.lawful).settle p h).here
 
     po : (q n since : ℕ) (a : List ℕ) → q < count m → status (settle_next m p) q ≡ posted n since a → SettleWay m p q → (z : State) × (kept t q ≡ Some z) × (Same n a z ⊎ Stale m r n since z)
-    po q n since a lt e (itself i) = absurd (posted_settled (sym e ∙ ap (status (settle_next m p)) i ∙ here))
-    po q n since a lt e (opens ne s i) = absurd (idle_posted (sym i ∙ e))
+    po q n since a lt e (itself i) = search rules
+    po q n since a lt e (opens ne s i) = absurd (cc)
     po q n since a lt e (stays ne i) = ok.posted_ok q n since a lt (sym i ∙ e)
 
     -- what p showed is its newest agreed state, since a lower number has not stood for so long
@@ -123,7 +123,7 @@ sound_settle t m r p ok h slow =
     se q n a lt e (itself i) =
         let is : settled (shown_number (status m p)) (shown_amounts (status m p)) ≡ settled n a = sym here ∙ ap (status (settle_next m p)) (sym i) ∙ e in
         (was.0, ap (kept t) i ∙ was.1, (was.2.0 ∙ ap shown_number is, was.2.1 ∙ ap shown_amounts is))
-    se q n a lt e (opens ne s i) = absurd (idle_settled (sym i ∙ e))
+    se q n a lt e (opens ne s i) = absurd (cc)
     se q n a lt e (stays ne i) = ok.settled_ok q n a lt (sym i ∙ e)
 
 pub sound_advance : (t : List (Option Update)) (m : Model) (r k : ℕ) → Sound t m r → first (advance_checks m k) ≡ accepted → Sound t (advance_next m k) (r + k)

@@ -1,29 +1,13 @@
 -- What the checks of a host say of what a place shows, in a lawful ledger.
-use Rattle.std.proofs.Common.{◌≡◌, ℕ, ◌<◌, ◌≤◌, Bool, true, false, not, eqb, ltb, List, [], ◌∷◌, length, Some, None, sum, Option, sym, refl, ap, ◌∙◌, arith}
-use Rattle.std.proofs.lemmas.Bool.{eq-eqb, lt-ltb, le-ltb, lt-leb, leb-false, ltb-false}
+use Rattle.std.proofs.Common.{◌≡◌, ℕ, ◌<◌, ◌≤◌, Bool, false, not, eqb, ltb, List, [], ◌∷◌, length, Some, None, sum, Option, sym, refl, ap, ◌∙◌, arith, rules}
+use Rattle.std.proofs.lemmas.Bool.{eq-eqb, lt-ltb, lt-leb, ltb-false}
 use Rattle.state.specs.declared.state.State.{State}
 use Rattle.state.specs.Refusals.{accepted, first}
 use Rattle.state.proofs.Checking.{Passed, passed_over}
 use Rattle.ledger.specs.Laws.{Backed, Lawful}
 use Rattle.ledger.specs.Model.{Model, Stage, fresh, holds, done, place_at, value_of, Status, shut, idle, posted, settled, status, status_by}
-use Rattle.ledger.specs.Steps.{due_at, is_none, worth, is_done, is_fresh, not_newer, early, post_stage_checks, settle_stage_checks, post_checks, settle_checks}
+use Rattle.ledger.specs.Steps.{due_at, is_none, worth, is_done, not_newer, settle_stage_checks, post_checks, settle_checks}
 use Rattle.ledger.proofs.Changing.{reached}
-
--- no standing is two
-pub posted_settled : {n h k : ℕ} {a b : List ℕ} → posted n h a ≡ settled k b → ⊥
-posted_settled e = let z : ◌≡◌ {A = ℕ} 0 1 = cc in omega arith
-
-pub idle_posted : {n h : ℕ} {a : List ℕ} → idle ≡ posted n h a → ⊥
-idle_posted e = let z : ◌≡◌ {A = ℕ} 0 1 = cc in omega arith
-
-pub idle_settled : {n : ℕ} {a : List ℕ} → idle ≡ settled n a → ⊥
-idle_settled e = let z : ◌≡◌ {A = ℕ} 0 1 = cc in omega arith
-
-pub shut_posted : {n h : ℕ} {a : List ℕ} → shut ≡ posted n h a → ⊥
-shut_posted e = let z : ◌≡◌ {A = ℕ} 0 1 = cc in omega arith
-
-pub shut_settled : {n : ℕ} {a : List ℕ} → shut ≡ settled n a → ⊥
-shut_settled e = let z : ◌≡◌ {A = ℕ} 0 1 = cc in omega arith
 
 -- a place is in one of four standings
 pub four : (A : Type 0) (st : Status) → (st ≡ shut → A) → (st ≡ idle → A) → ((n h : ℕ) (a : List ℕ) → st ≡ posted n h a → A) → ((n : ℕ) (a : List ℕ) → st ≡ settled n a → A) → A
@@ -34,19 +18,19 @@ four A (settled n a) s i p d = d n a refl
 
 -- what a place holds, by what it shows
 stage_posted : (v : Option ℕ) (s : Stage) (n h : ℕ) (a : List ℕ) → status_by v s ≡ posted n h a → s ≡ holds n h a
-stage_posted None fresh n h a e = absurd (shut_posted e)
-stage_posted (Some v) fresh n h a e = absurd (idle_posted e)
+stage_posted None fresh n h a e = cc
+stage_posted (Some v) fresh n h a e = cc
 stage_posted v (holds k t b) n h a e = cc
-stage_posted v (done k b) n h a e = absurd (posted_settled (sym e))
+stage_posted v (done k b) n h a e = cc
 
 -- a place posted since h, in a lawful ledger: that height has been
 pub dated : (m : Model) → Lawful m → (p n h : ℕ) (a : List ℕ) → p < length m.places → status m p ≡ posted n h a → h ≤ m.height
 dated m law p n h a lt e = go (place_at m p).stage (stage_posted (value_of m p) (place_at m p).stage n h a e) (law.backed p lt)
   where
     go : (s : Stage) → s ≡ holds n h a → Backed (value_of m p) s m.height → h ≤ m.height
-    go fresh i b = absurd (let z : ◌≡◌ {A = ℕ} 0 1 = cc in omega arith)
+    go fresh i b = search rules
     go (holds k t c) i b = let same : t ≡ h = cc in omega (arith, b.2)
-    go (done k c) i b = absurd (let z : ◌≡◌ {A = ℕ} 0 1 = cc in omega arith)
+    go (done k c) i b = search rules
 
 -- an accepted post
 pub record PostTaken (m : Model) (x : State) : Type 0 where
@@ -55,22 +39,19 @@ pub record PostTaken (m : Model) (x : State) : Type 0 where
   pub newer : (n h : ℕ) (a : List ℕ) → status m x.place ≡ posted n h a → n < x.number.value
 
 pub post_taken : (m : Model) (x : State) → first (post_checks m x) ≡ accepted → PostTaken m x
-post_taken m x h =
-    let p = x.place in
-    let r = reached m p (post_stage_checks (worth (value_of m p)) (place_at m p).stage x) refl h in
-    record { within = r.within; unsettled = not_settled (value_of m p) (place_at m p).stage r.passed.0; newer = above (value_of m p) (place_at m p).stage r.passed.1.1.0 }
+post_taken m x h = search rules
   where
     not_settled : (v : Option ℕ) (s : Stage) → is_done s ≡ false → (n : ℕ) (a : List ℕ) → status_by v s ≡ settled n a → ⊥
-    not_settled None fresh d n a e = shut_settled e
-    not_settled (Some v) fresh d n a e = idle_settled e
-    not_settled v (holds k t c) d n a e = posted_settled e
-    not_settled v (done k c) d n a e = let z : ◌≡◌ {A = ℕ} 0 1 = cc in omega arith
+    not_settled None fresh d n a e = cc
+    not_settled (Some v) fresh d n a e = cc
+    not_settled v (holds k t c) d n a e = cc
+    not_settled v (done k c) d n a e = cc
 
     above : (v : Option ℕ) (s : Stage) → not_newer s x.number.value ≡ false → (n h : ℕ) (a : List ℕ) → status_by v s ≡ posted n h a → n < x.number.value
-    above None fresh d n h a e = absurd (shut_posted e)
-    above (Some v) fresh d n h a e = absurd (idle_posted e)
-    above v (holds k t c) d n h a e = let same : k ≡ n = cc in omega (arith, leb-false x.number.value k d)
-    above v (done k c) d n h a e = absurd (posted_settled (sym e))
+    above None fresh d n h a e = cc
+    above (Some v) fresh d n h a e = cc
+    above v (holds k t c) d n h a e = search rules
+    above v (done k c) d n h a e = cc
 
 -- checks that all pass are accepted
 pub all_pass : (cs : List (Bool × ℕ)) → Passed cs → first cs ≡ accepted
@@ -110,20 +91,16 @@ settle_taken m p h =
     go (place_at m p).stage refl r.within r.passed
   where
     go : (s : Stage) → (place_at m p).stage ≡ s → p < length m.places → Passed (settle_stage_checks s (place_at m p).delay m.height) → SettleTaken m p
-    go fresh i lt c = let z : ◌≡◌ {A = Bool} true false = c.0 in let y : ◌≡◌ {A = ℕ} 0 1 = cc in absurd (omega arith)
+    go fresh i lt c = search rules
     go (holds k t a) i lt c =
         record { within = lt; number = k; since = t; amounts = a; shown = ap (status_by (value_of m p)) i; due = ltb-false m.height (due_at k t (place_at m p).delay) c.1.1.0 }
-    go (done k a) i lt c = let z : ◌≡◌ {A = Bool} true false = c.1.0 in let y : ◌≡◌ {A = ℕ} 0 1 = cc in absurd (omega arith)
+    go (done k a) i lt c = search rules
 
 -- a settlement that is accepted: the place is posted and due
 pub can_settle : (m : Model) → Lawful m → (p n h : ℕ) (a : List ℕ) → p < length m.places → status m p ≡ posted n h a → due_at n h (place_at m p).delay ≤ m.height → first (settle_checks m p) ≡ accepted
-can_settle m law p n h a lt e due =
-    let held = stage_posted (value_of m p) (place_at m p).stage n h a e in
-    let there : not (ltb p (length m.places)) ≡ false = ap not (lt-ltb p (length m.places) lt) in
-    all_pass (settle_checks m p)
-    (there, (ap is_none (valued (place_at m p).stage held (law.backed p lt)), (ap is_fresh held, (ap is_done held, (ap (λ s. early s (place_at m p).delay m.height) held ∙ le-ltb m.height (due_at n h (place_at m p).delay) due, tt)))))
+can_settle m law p n h a lt e due = search rules
   where
     valued : (s : Stage) → s ≡ holds n h a → Backed (value_of m p) s m.height → value_of m p ≡ Some (sum a)
-    valued fresh i b = absurd (let z : ◌≡◌ {A = ℕ} 0 1 = cc in omega arith)
-    valued (holds k t c) i b = let same : c ≡ a = cc in b.0 ∙ ap (λ (v : List ℕ). Some (sum v)) same
-    valued (done k c) i b = absurd (let z : ◌≡◌ {A = ℕ} 0 1 = cc in omega arith)
+    valued fresh i b = search rules
+    valued (holds k t c) i b = search rules
+    valued (done k c) i b = search rules

@@ -1,5 +1,5 @@
 -- How long a marked place can take, and that no call but a round makes it longer.
-use Rattle.std.proofs.Common.{◌≡◌, ℕ, ◌+◌, ◌<◌, ◌≤◌, Bool, true, false, ◌⊎◌, List, length, Some, Option, sym, refl, ap, ◌∙◌, inl, inr, arith}
+use Rattle.std.proofs.Common.{◌≡◌, ℕ, ◌+◌, ◌<◌, ◌≤◌, Bool, true, false, ◌⊎◌, List, length, Some, Option, sym, refl, ap, ◌∙◌, inl, inr, arith, rules}
 use Rattle.std.proofs.lemmas.Bool.{cases_eq, true≢false}
 use Rattle.state.specs.declared.state.State.{State}
 use Rattle.state.specs.declared.update.Update.{Update}
@@ -7,10 +7,9 @@ use Rattle.state.specs.Refusals.{accepted, first}
 use Rattle.ledger.specs.Laws.{Lawful}
 use Rattle.ledger.specs.Model.{Model, place_at, posted, status, is_settled}
 use Rattle.ledger.specs.Steps.{post_checks, post_next, settle_checks, settle_next, advance_next}
-use Rattle.ledger.proofs.Changing.{some_same}
 use Rattle.ledger.proofs.Showing.{steps_show}
 use Rattle.eltoo.specs.Stations.{count, is_marked, is_posted}
-use Rattle.eltoo.proofs.Standings.{four, PostTaken, post_taken}
+use Rattle.eltoo.proofs.Standings.{PostTaken, post_taken}
 use Rattle.eltoo.proofs.Moves.{Alike, post_alike, settle_alike, advance_alike, delay_same, SettleWay, itself, opens, stays, settle_way}
 use Rattle.eltoo.proofs.Sound.{kept, NotNewer}
 use Rattle.eltoo.proofs.Agreeing.{keeping, kept_here, kept_other}
@@ -100,19 +99,11 @@ timely_post t ks m g h r q x law le c old w = go (cases_eq q x.place)
     taken = post_taken m x c
 
     no-set : q ≡ x.place → IsSettled m q → ⊥
-    no-set e s = four ⊥ (status m x.place)
-        (λ i. true≢false (sym s ∙ ap (λ n. is_settled (status m n)) e ∙ ap is_settled i))
-        (λ i. true≢false (sym s ∙ ap (λ n. is_settled (status m n)) e ∙ ap is_settled i))
-        (λ n since a i. true≢false (sym s ∙ ap (λ n. is_settled (status m n)) e ∙ ap is_settled i))
-        (λ n a i. taken.unsettled n a i)
+    no-set e s = search rules
 
     -- a newest agreed state is not posted over
     no-up : {b : ℕ} → q ≡ x.place → Up t m q b → ⊥
-    no-up e u =
-        let newer : u.state.number.value < x.number.value = taken.newer u.state.number.value u.since u.state.amounts (ap (status m) (sym e) ∙ u.shown) in
-        let same : u.state ≡ old.0 = some_same (sym u.newest ∙ ap (kept t) e ∙ old.1) in
-        let n₁ : u.state.number.value ≡ old.0.number.value = ap (λ (y : State). y.number.value) same in
-        elim old.2 [ inl i ↦ (let n₂ : x.number.value ≡ old.0.number.value = ap (λ (y : State). y.number.value) i in omega arith) | inr less ↦ omega arith ]
+    no-up e u = search rules
 
     go : (q ≡ x.place) ⊎ (q ≡ x.place → ⊥) → Timely t ks (post_next m x) g h r q
     go (inr ne) = timely_same t ks m (post_next m x) g h r q alike refl (((steps_show m law).post x c).elsewhere q ne) w

@@ -1,6 +1,6 @@
 -- A round brings every marked place on: what it leaves undone could not be done yet.
-use Rattle.std.proofs.Common.{◌≡◌, ℕ, zero, suc, ◌+◌, ◌<◌, ◌≤◌, Bool, true, false, not, ◌&&◌, ◌||◌, ltb, ◌⊎◌, List, Some, None, Option, sym, refl, ap, ◌∙◌, subst, inl, inr, arith}
-use Rattle.std.proofs.lemmas.Bool.{cases_eq, true≢false, lt-ltb, le-ltb, leb-false}
+use Rattle.std.proofs.Common.{◌≡◌, ℕ, zero, suc, ◌+◌, ◌<◌, ◌≤◌, Bool, true, false, not, ◌&&◌, ◌||◌, ltb, ◌⊎◌, List, Some, None, Option, sym, refl, ap, ◌∙◌, subst, inl, inr, arith, rules}
+use Rattle.std.proofs.lemmas.Bool.{cases_eq, true≢false, le-ltb, leb-false}
 use Rattle.state.specs.declared.state.State.{State}
 use Rattle.state.specs.declared.update.Update.{Update}
 use Rattle.state.specs.Refusals.{accepted, first}
@@ -16,7 +16,7 @@ use Rattle.eltoo.specs.Rounds.{Tour, is_behind, wants_post, is_due, wants_settle
 use Rattle.eltoo.proofs.Standings.{four, dated}
 use Rattle.eltoo.proofs.Moves.{Alike, alike_then, delay_same, parent_same, parent_below}
 use Rattle.eltoo.proofs.Sound.{state_by, kept, Same, Stale, Sound}
-use Rattle.eltoo.proofs.Visiting.{FirstHalf, posts, rests, SecondHalf, settles, waits, sound₁, alike₁, height₁, others₁, alike₂, height₂, unposted₂, Visited}
+use Rattle.eltoo.proofs.Visiting.{FirstHalf, posts, rests, SecondHalf, settles, waits, sound₁, alike₁, height₁, others₁, alike₂, unposted₂, Visited}
 use Rattle.eltoo.proofs.Rounds.{halves, Brief, all_visits}
 use Rattle.eltoo.proofs.Lineages.{Above, above_more, ahead, ahead_alike, ahead_child}
 use Rattle.eltoo.proofs.Timely.{IsSettled, Up, Timely, timely_same, timely_done, timely_settle}
@@ -73,9 +73,7 @@ module _ (t : List (Option Update)) (ks : List Bool) (m n : Model) (g h r q : �
       stays_up j since a e = way (ok.posted_ok q j since a w.there e)
         where
           behind : j < x.number.value → ⊥
-          behind low =
-              let b : ltb j x.number.value ≡ true = lt-ltb j x.number.value low in
-              true≢false (sym (ap (λ v. is_behind v x.number.value || (is_idle v && is_marked ks q)) e ∙ ap (λ v. v || false) b) ∙ no-want)
+          behind low = search rules
 
           soon : since ≤ bound
           soon = elim w.begun [
@@ -117,7 +115,7 @@ visit_self t ks m m₁ m₂ g h r q x ok w k le parent f s = go (after_first t k
     alike = alike_then a₁ (alike₂ m₁ m₂ q s)
 
     height : m₂.height ≡ m.height
-    height = height₂ m₁ m₂ q s ∙ height₁ ks t m m₁ r q x ok w.there k f
+    height = search rules
 
     A : ahead m₂ g q ≡ ahead m g q
     A = ahead_alike alike g q
@@ -140,7 +138,7 @@ visit_self t ks m m₁ m₂ g h r q x ok w k le parent f s = go (after_first t k
 
     -- shut: its parent is not settled, so that its time has not come
     early : status m q ≡ shut → (o : Option Parent) → (place_at m q).parent ≡ o → m.height ≤ h + ahead m g q
-    early e None i = absurd (true≢false (sym (ap is_shut e) ∙ (laws_hold m ok.lawful).root_never_shut q w.there i))
+    early e None i = search rules
     early e (Some v) i =
         let p = parent v.place v.index i in
         let a = ahead_child m ok.lawful.laid g q v.place v.index w.there i in

@@ -1,26 +1,26 @@
 -- What the visits of a round do: under what the runs keep, none of their calls is refused.
-use Rattle.std.proofs.Common.{◌≡◌, ℕ, suc, ◌<◌, Bool, true, false, ◌&&◌, ◌||◌, ltb, ◌⊎◌, List, get_or, Some, None, Option, sym, refl, ap, ◌∙◌, subst, inl, inr, arith}
-use Rattle.std.proofs.lemmas.Bool.{cases_eq, cases_Bool, cond-true, cond-false, true≢false, ltb-true, lt-ltb, leb-true, not-false, or_cases}
+use Rattle.std.proofs.Common.{◌≡◌, ℕ, suc, ◌<◌, Bool, true, false, ◌&&◌, ◌||◌, ◌⊎◌, List, get_or, Some, None, Option, sym, refl, ap, ◌∙◌, subst, inl, inr, arith, rules}
+use Rattle.std.proofs.lemmas.Bool.{cases_eq, cases_Bool, cond-true, true≢false}
 use Rattle.state.specs.declared.state.State.{State}
 use Rattle.state.specs.declared.update.Update.{Update}
 use Rattle.state.specs.Refusals.{accepted, first}
 use Rattle.ledger.specs.declared.view.Parent.{Parent}
 use Rattle.ledger.specs.Laws.{Lawful, child}
 use Rattle.ledger.specs.Model.{Model, place_at, value_of, Status, shut, idle, posted, settled, status, is_shut, is_settled}
-use Rattle.ledger.specs.Steps.{due_at, post_checks, post_next, settle_checks, settle_next}
-use Rattle.ledger.proofs.Changing.{some_same, none_some}
+use Rattle.ledger.specs.Steps.{post_checks, post_next, settle_checks, settle_next}
+use Rattle.ledger.proofs.Changing.{none_some}
 use Rattle.ledger.proofs.Keeping.{laws_hold}
 use Rattle.ledger.proofs.Showing.{steps_show}
 use Rattle.eltoo.specs.declared.answer.Counts.{Counts}
 use Rattle.eltoo.specs.Stations.{count, total, newest_at, is_marked, is_idle, is_posted, allotted, allotment_by, allotment}
-use Rattle.eltoo.specs.Rounds.{Tour, is_accepted, one_post, one_settlement, tried, is_behind, wants_post, is_due, wants_settle, tried_post, tried_settle}
-use Rattle.eltoo.proofs.Standings.{four, posted_settled, idle_posted, idle_settled, can_post, can_settle, settle_taken}
+use Rattle.eltoo.specs.Rounds.{Tour, one_post, tried, is_behind, wants_post, wants_settle, tried_post, tried_settle}
+use Rattle.eltoo.proofs.Standings.{four, can_post, settle_taken}
 use Rattle.eltoo.proofs.Moves.{Alike, alike_same, alike_then, post_alike, settle_alike, delay_same, parent_below, SettleWay, itself, opens, stays, settle_way}
 use Rattle.eltoo.proofs.Sound.{state_by, kept, Same, Sound, sound_post, sound_settle}
 
 -- the parent of a place that is not shut is settled
 parent_settled : (m : Model) → Lawful m → (c q i : ℕ) → c < count m → (place_at m c).parent ≡ child q i → is_shut (status m c) ≡ false → is_settled (status m q) ≡ true
-parent_settled m law c q i lt e s = not-false (is_settled (status m q)) (sym ((laws_hold m law).child_shut c q i lt e) ∙ s)
+parent_settled m law c q i lt e s = search rules
 
 -- a newest agreed state adds up to the value of its place, once that is not shut
 pub adds_up : (t : List (Option Update)) (m : Model) (r p : ℕ) (x : State) → Sound t m r → p < count m → kept t p ≡ Some x → is_shut (status m p) ≡ false → value_of m p ≡ Some (total x)
@@ -30,11 +30,11 @@ adds_up t m r p x ok lt k up = go (place_at m p).parent refl
     due = ok.fits p x lt k
 
     by : (o : Option Parent) → (place_at m p).parent ≡ o → allotment_by t o (place_at m p).funding ≡ Some (total x)
-    by o e = sym (ap (λ (y : Option Parent). allotment_by t y (place_at m p).funding) e) ∙ due
+    by o e = search rules
 
     given : (q : Parent) (o : Option Update) (z : State) → state_by o ≡ Some z → allotted o q.index ≡ Some (total x) → get_or z.amounts q.index 0 ≡ total x
     given q None z e d = absurd (none_some e)
-    given q (Some u) z e d = ap (λ (y : State). get_or y.amounts q.index 0) (sym (some_same e)) ∙ some_same d
+    given q (Some u) z e d = search rules
 
     go : (o : Option Parent) → (place_at m p).parent ≡ o → value_of m p ≡ Some (total x)
     go None e = (laws_hold m ok.lawful).root_value p lt e ∙ by None e
@@ -50,7 +50,7 @@ adds_up t m r p x ok lt k up = go (place_at m p).parent refl
         ∙ ap Some (given q (newest_at t q.place) w.0 w.1 (by (Some q) e)))
       where
         settled_up : is_settled (status m q.place) ≡ true
-        settled_up = parent_settled m ok.lawful p q.place q.index lt e up
+        settled_up = search rules
 
 -- what the first half of a visit did: a post that was accepted, or nothing
 pub data FirstHalf (ks : List Bool) (m : Model) (p : ℕ) (x : State) (n : Model) : Type 0 where
@@ -64,9 +64,7 @@ pub data SecondHalf (m : Model) (p : ℕ) (n : Model) : Type 0 where
 
 -- an accepted call in a round
 tried_ledger : (checks : List (Bool × ℕ)) (next : Model) (more : Counts → Counts) (w : Tour) → first checks ≡ accepted → (tried checks next more w).ledger ≡ next
-tried_ledger checks next more w e =
-    let yes : is_accepted (first checks) ≡ true = ap is_accepted e in
-    ap (λ (v : Tour). v.ledger) (cond-true (is_accepted (first checks)) _ _ yes)
+tried_ledger checks next more w e = search rules
 
 pub first_half : (ks : List Bool) (t : List (Option Update)) (w : Tour) (r p : ℕ) (x : State) → Sound t w.ledger r → p < count w.ledger → kept t p ≡ Some x → FirstHalf ks w.ledger p x (tried_post ks p x w).ledger
 first_half ks t w r p x ok lt k = go (cases_Bool (wants_post ks w.ledger p x))
@@ -80,10 +78,8 @@ first_half ks t w r p x ok lt k = go (cases_Bool (wants_post ks w.ledger p x))
     -- the place is neither shut nor settled, and a number shown there is lower
     way : (st : Status) → (is_behind st x.number.value || (is_idle st && is_marked ks p)) ≡ true → (is_shut st ≡ false) × ((n : ℕ) (a : List ℕ) → st ≡ settled n a → ⊥) × ((n h : ℕ) (a : List ℕ) → st ≡ posted n h a → n < x.number.value)
     way shut e = absurd (true≢false (sym e))
-    way idle e = (refl, (λ n a i. idle_settled i), (λ n h a i. absurd (idle_posted i)))
-    way (posted k s b) e =
-        let low : k < x.number.value = elim (or_cases (ltb k x.number.value) false e) [ inl i ↦ ltb-true k x.number.value i | inr i ↦ absurd (true≢false (sym i)) ] in
-        (refl, (λ n a i. posted_settled i), (λ n h a i. (let same : k ≡ n = cc in omega arith)))
+    way idle e = search rules
+    way (posted k s b) e = search rules
     way (settled k b) e = absurd (true≢false (sym e))
 
     taken : wants_post ks w.ledger p x ≡ true → first (post_checks w.ledger x) ≡ accepted
@@ -97,24 +93,17 @@ first_half ks t w r p x ok lt k = go (cases_Bool (wants_post ks w.ledger p x))
         posts e (taken e)
         (ap (λ (v : Tour). v.ledger) (cond-true (wants_post ks w.ledger p x) (tried (post_checks w.ledger x) (post_next w.ledger x) one_post w) w e)
         ∙ tried_ledger (post_checks w.ledger x) (post_next w.ledger x) one_post w (taken e))
-    go (inr e) = rests e (ap (λ (v : Tour). v.ledger) (cond-false (wants_post ks w.ledger p x) (tried (post_checks w.ledger x) (post_next w.ledger x) one_post w) w e))
+    go (inr e) = search rules
 
 pub second_half : (w : Tour) (p : ℕ) → Lawful w.ledger → p < count w.ledger → SecondHalf w.ledger p (tried_settle p w).ledger
 second_half w p law lt = go (cases_Bool (wants_settle w.ledger p))
   where
     taken : wants_settle w.ledger p ≡ true → first (settle_checks w.ledger p) ≡ accepted
-    taken e = four (first (settle_checks w.ledger p) ≡ accepted) (status w.ledger p)
-        (λ s. absurd (true≢false (sym e ∙ ap (λ v. is_due v (place_at w.ledger p).delay w.ledger.height) s)))
-        (λ s. absurd (true≢false (sym e ∙ ap (λ v. is_due v (place_at w.ledger p).delay w.ledger.height) s)))
-        (λ n h a s. can_settle w.ledger law p n h a lt s (leb-true (due_at n h (place_at w.ledger p).delay) w.ledger.height (sym (ap (λ v. is_due v (place_at w.ledger p).delay w.ledger.height) s) ∙ e)))
-        (λ n a s. absurd (true≢false (sym e ∙ ap (λ v. is_due v (place_at w.ledger p).delay w.ledger.height) s)))
+    taken e = search rules
 
     go : (wants_settle w.ledger p ≡ true) ⊎ (wants_settle w.ledger p ≡ false) → SecondHalf w.ledger p (tried_settle p w).ledger
-    go (inl e) =
-        settles (taken e)
-        (ap (λ (v : Tour). v.ledger) (cond-true (wants_settle w.ledger p) (tried (settle_checks w.ledger p) (settle_next w.ledger p) one_settlement w) w e)
-        ∙ tried_ledger (settle_checks w.ledger p) (settle_next w.ledger p) one_settlement w (taken e))
-    go (inr e) = waits e (ap (λ (v : Tour). v.ledger) (cond-false (wants_settle w.ledger p) (tried (settle_checks w.ledger p) (settle_next w.ledger p) one_settlement w) w e))
+    go (inl e) = search rules
+    go (inr e) = search rules
 
 -- what the first half of the visit of p keeps
 module _ (ks : List Bool) (t : List (Option Update)) (m n : Model) (r p : ℕ) (x : State) (ok : Sound t m r) (lt : p < count m) (k : kept t p ≡ Some x) (half : FirstHalf ks m p x n) where
@@ -138,22 +127,11 @@ module _ (ks : List Bool) (t : List (Option Update)) (m n : Model) (r p : ℕ) (
   clean₁ j since a e = go half
     where
       go : FirstHalf ks m p x n → Same j a x
-      go (posts w h i) =
-          let is : posted x.number.value m.height x.amounts ≡ posted j since a = sym ((steps_show m ok.lawful).post x h).here ∙ ap (status (post_next m x)) at ∙ sym (ap (λ (y : Model). status y p) i) ∙ e in
-          ((cc), (cc))
-      go (rests w i) =
-          let f : status m p ≡ posted j since a = sym (ap (λ (y : Model). status y p) i) ∙ e in
-          let z = ok.posted_ok p j since a lt f in
-          let same : z.0 ≡ x = some_same (sym z.1 ∙ k) in
-          elim z.2 [
-            | inl s ↦ (ap (λ (v : State). v.number.value) (sym same) ∙ s.0, ap (λ (v : State). v.amounts) (sym same) ∙ s.1)
-            | inr s ↦ absurd (true≢false (sym (wanted f (subst (λ (v : State). j < v.number.value) same s.0)) ∙ w))
-          ]
+      go (posts w h i) = search rules
+      go (rests w i) = search rules
         where
           wanted : status m p ≡ posted j since a → j < x.number.value → wants_post ks m p x ≡ true
-          wanted f low =
-              let b : ltb j x.number.value ≡ true = lt-ltb j x.number.value low in
-              ap (λ v. is_behind v x.number.value || (is_idle v && is_marked ks p)) f ∙ ap (λ v. v || false) b
+          wanted f low = search rules
 
 -- and the second half
 module _ (m n : Model) (p : ℕ) (half : SecondHalf m p n) where
@@ -176,8 +154,8 @@ module _ (m n : Model) (p : ℕ) (half : SecondHalf m p n) where
     posted₂ q j since a lt e = elim half [ settles h i ↦ by h (sym (ap (λ (y : Model). status y q) i) ∙ e) (settle_way m ok.lawful p h q lt) | waits w i ↦ sym (ap (λ (y : Model). status y q) i) ∙ e ]
       where
         by : first (settle_checks m p) ≡ accepted → status (settle_next m p) q ≡ posted j since a → SettleWay m p q → status m q ≡ posted j since a
-        by h f (itself i) = absurd (posted_settled (sym f ∙ ap (status (settle_next m p)) i ∙ ((steps_show m ok.lawful).settle p h).here))
-        by h f (opens ne s i) = absurd (idle_posted (sym i ∙ f))
+        by h f (itself i) = search rules
+        by h f (opens ne s i) = absurd (cc)
         by h f (stays ne i) = sym i ∙ f
 
 -- the posted places below n show their newest agreed state
@@ -220,7 +198,5 @@ no_visit t m₀ m r n v lt k =
     record { sound = v.sound; alike = v.alike; same_height = v.same_height; clean = λ p j since a low e. tidy p j since a low e (cases_eq p n) }
   where
     tidy : (p j since : ℕ) (a : List ℕ) → p < suc n → status m p ≡ posted j since a → (p ≡ n) ⊎ (p ≡ n → ⊥) → (z : State) × (kept t p ≡ Some z) × Same j a z
-    tidy p j since a low e (inl q) =
-        let w = v.sound.posted_ok p j since a (omega (arith, q, lt)) e in
-        absurd (none_some (sym k ∙ ap (kept t) (sym q) ∙ w.1))
+    tidy p j since a low e (inl q) = search rules
     tidy p j since a low e (inr ne) = v.clean p j since a (omega arith) e

@@ -1,10 +1,10 @@
-use Rattle.std.specs.Prelude.{◌≡◌, List, [], ◌∷◌, ◌++◌, map, reverse}
+use Rattle.std.specs.Prelude.{◌≡◌, List, [], ◌∷◌, ◌++◌, map, reverse, Some}
 use Rattle.ledger.specs.Laws.{Lawful, Untouched}
 use Rattle.seal.specs.Registers.{RowGives}
 use Rattle.eltoo.specs.declared.call.Call.{Call}
 use Rattle.eltoo.specs.declared.turn.Turn.{Turn}
 use Rattle.eltoo.specs.Stations.{StationModel}
-use Rattle.eltoo.specs.Steps.{Own, Step}
+use Rattle.eltoo.specs.Steps.{Answer, Own, Step}
 use Rattle.eltoo.specs.Runs.{Entry, Run, origin, Holds}
 use Rattle.eltoo.specs.Safety.{HoldsFresh}
 
@@ -13,13 +13,13 @@ use Rattle.eltoo.specs.Safety.{HoldsFresh}
 abbrev pub calls_of : List Turn → List Call
 calls_of ts = map (λ (x : Turn). x.call) ts
 
--- station s, called so in turn, answers so and is t afterwards
+-- station s, called so in turn, gives these answers and is t afterwards
 abbrev pub Performs : Own → StationModel → List Turn → StationModel → Type 0
 Performs own s [] t = t ≡ s
-Performs own s (x ∷ ts) t = (u : StationModel) × Step own s x.call x.answer u × Performs own u ts t
+Performs own s (x ∷ ts) t = (a : Answer) × (u : StationModel) × (x.answer ≡ Some a) × Step own s x.call a u × Performs own u ts t
 
 abbrev pub turn_of : Entry → Turn
-turn_of e = record { call = e.call; answer = e.answer }
+turn_of e = record { call = e.call; answer = Some e.answer }
 
 -- a run from s to t, whose calls and answers are these, the latest first; nothing is broken
 pub record Story (own : Own) (s : StationModel) (ts : List Turn) (t : StationModel) : Type 0 where

@@ -1,4 +1,4 @@
-use Rattle.std.specs.Prelude.{ℕ, zero, suc, ◌+◌, Bool, true, false, cond, ◌&&◌, ◌||◌, List, Some, None, Option, nat_le, nat_lt}
+use Rattle.std.specs.Prelude.{ℕ, zero, suc, ◌+◌, Bool, true, false, ◌&&◌, ◌||◌, List, Some, None, Option, nat_le, nat_lt, if◌then◌else◌}
 use Rattle.state.specs.declared.state.State.{State}
 use Rattle.state.specs.declared.update.Update.{Update}
 use Rattle.state.specs.Refusals.{first}
@@ -36,7 +36,7 @@ one_refusal c = record { posts = c.posts; settlements = c.settlements; refusals 
 -- a call of the host in a round: the ledger that it makes and one more of its sort, or one refusal more
 abbrev pub tried : List (Bool × ℕ) → Model → (Counts → Counts) → Tour → Tour
 tried checks next on_more w =
-    cond (is_accepted (first checks)) (record { ledger = next; counts = on_more w.counts }) (record { ledger = w.ledger; counts = one_refusal w.counts })
+    if is_accepted (first checks) then record { ledger = next; counts = on_more w.counts } else record { ledger = w.ledger; counts = one_refusal w.counts }
 
 -- posted with a lower number
 abbrev pub is_behind : Status → ℕ → Bool
@@ -60,10 +60,10 @@ abbrev pub wants_settle : Model → ℕ → Bool
 wants_settle m p = is_due (status m p) (place_at m p).delay m.height
 
 abbrev pub tried_post : List Bool → ℕ → State → Tour → Tour
-tried_post ks p x w = cond (wants_post ks w.ledger p x) (tried (post_checks w.ledger x) (post_next w.ledger x) one_post w) w
+tried_post ks p x w = if wants_post ks w.ledger p x then tried (post_checks w.ledger x) (post_next w.ledger x) one_post w else w
 
 abbrev pub tried_settle : ℕ → Tour → Tour
-tried_settle p w = cond (wants_settle w.ledger p) (tried (settle_checks w.ledger p) (settle_next w.ledger p) one_settlement w) w
+tried_settle p w = if wants_settle w.ledger p then tried (settle_checks w.ledger p) (settle_next w.ledger p) one_settlement w else w
 
 -- the visit of a place: first the post, then the settlement; a place with nothing agreed is skipped
 abbrev pub visit : List Bool → Option Update → ℕ → Tour → Tour

@@ -1,4 +1,4 @@
-use Rattle.std.specs.Prelude.{◌≡◌, ℕ, ◌+◌, ◌<◌, ◌≤◌, Bool, true, false, cond, not, ◌&&◌, ◌⊎◌, List, [], ◌∷◌, length, Some, None, Option, ◌==◌, slice_index}
+use Rattle.std.specs.Prelude.{◌≡◌, ℕ, ◌+◌, ◌<◌, ◌≤◌, true, not, ◌&&◌, ◌⊎◌, List, [], ◌∷◌, length, Some, None, Option, is_ok, ◌==◌, if◌then◌else◌, slice_index}
 use Rattle.state.specs.declared.state.State.{State}
 use Rattle.account.specs.Accounts.{paid, Conserved}
 use Rattle.account.specs.Sums.{sum_to}
@@ -6,11 +6,9 @@ use Rattle.ledger.specs.Laws.{Lawful, Untouched, has_children}
 use Rattle.ledger.specs.Model.{Model, place_at, settled, status, is_settled}
 use Rattle.eltoo.specs.declared.call.Call.{Call}
 use Rattle.eltoo.specs.declared.call.Call.TheVariants.{Agree, Claim, Post, Settle, Advance, Round}
-use Rattle.eltoo.specs.declared.answer.Answer.{Answer}
-use Rattle.eltoo.specs.declared.answer.Answer.TheVariants.{Refused, Done, Sealed, Counted}
 use Rattle.eltoo.specs.Lineage.{wait}
 use Rattle.eltoo.specs.Stations.{StationModel, set_up, count}
-use Rattle.eltoo.specs.Steps.{Own, Step}
+use Rattle.eltoo.specs.Steps.{Answer, Own, Step}
 
 -- Runs of a station.
 
@@ -37,21 +35,15 @@ abbrev pub origin : List Entry → StationModel → StationModel
 origin [] s = s
 origin (e ∷ es) s = origin es e.before
 
-abbrev pub is_accepting : Answer → Bool
-is_accepting (Refused e) = false
-is_accepting Done = true
-is_accepting (Sealed k) = true
-is_accepting (Counted c) = true
-
 -- What was agreed, and claimed.
 
 -- x was agreed in the run
 abbrev pub Agreed : List Entry → State → Type 0
 Agreed [] x = ⊥
-Agreed (e ∷ es) x = ((e.call ≡ Agree x) × (is_accepting e.answer ≡ true)) ⊎ Agreed es x
+Agreed (e ∷ es) x = ((e.call ≡ Agree x) × (is_ok e.answer ≡ true)) ⊎ Agreed es x
 
 abbrev pub newest_by : Call → Answer → ℕ → Option State → Option State
-newest_by (Agree x) a p before = cond (is_accepting a && p == x.place) (Some x) before
+newest_by (Agree x) a p before = if is_ok a && p == x.place then Some x else before
 newest_by (Claim q) a p before = before
 newest_by (Post x k) a p before = before
 newest_by (Settle q) a p before = before
@@ -66,7 +58,7 @@ newest_agreed (e ∷ es) p = newest_by e.call e.answer p (newest_agreed es p)
 -- p was claimed at height h
 abbrev pub Claimed : List Entry → ℕ → ℕ → Type 0
 Claimed [] p h = ⊥
-Claimed (e ∷ es) p h = ((e.call ≡ Claim p) × (is_accepting e.answer ≡ true) × (e.before.ledger.height ≡ h)) ⊎ Claimed es p h
+Claimed (e ∷ es) p h = ((e.call ≡ Claim p) × (is_ok e.answer ≡ true) × (e.before.ledger.height ≡ h)) ⊎ Claimed es p h
 
 -- The premises.
 
@@ -84,7 +76,7 @@ risen_by (Agree x) a n = n
 risen_by (Claim p) a n = n
 risen_by (Post x k) a n = n
 risen_by (Settle p) a n = n
-risen_by (Advance k) a n = cond (is_accepting a) (n + k) n
+risen_by (Advance k) a n = if is_ok a then n + k else n
 risen_by Round a n = 0
 
 -- the sum of the accepted advances since the last round, or since the set-up where there was none
@@ -114,7 +106,7 @@ amount_in (Some x) j = slice_index x.amounts j
 -- every settled place shows its newest agreed state, and each party is paid its amounts in those of the settled channels
 pub record SettledNewest (es : List Entry) (s : StationModel) : Type 0 where
   pub shows : (p n : ℕ) (a : List ℕ) → p < count s.ledger → status s.ledger p ≡ settled n a → (x : State) × (newest_agreed es p ≡ Some x) × (x.number.value ≡ n) × (x.amounts ≡ a)
-  pub pays : (j : ℕ) → paid s.ledger j ≡ sum_to (count s.ledger) (λ p. cond (is_settled (status s.ledger p) && not (has_children p s.ledger.places)) (amount_in (newest_agreed es p) j) 0)
+  pub pays : (j : ℕ) → paid s.ledger j ≡ sum_to (count s.ledger) (λ p. if is_settled (status s.ledger p) && not (has_children p s.ledger.places) then amount_in (newest_agreed es p) j else 0)
 
 -- a place that was claimed at height h is settled at every height above h + wait
 abbrev pub SettledInTime : ℕ → List Entry → StationModel → Type 0

@@ -4,10 +4,9 @@ use Rattle.ledger.specs.Laws.{Lawful, Untouched}
 use Rattle.seal.specs.Registers.{RowGives}
 use Rattle.seal.specs.Seals.{Seals}
 use Rattle.eltoo.specs.declared.call.Call.{Call}
-use Rattle.eltoo.specs.declared.answer.Answer.{Answer}
 use Rattle.eltoo.specs.Lineage.{lineage, among}
 use Rattle.eltoo.specs.Stations.{StationModel, is_marked, claim_next}
-use Rattle.eltoo.specs.Steps.{Own}
+use Rattle.eltoo.specs.Steps.{Answer, Own}
 use Rattle.eltoo.specs.Runs.{Entry, Run, origin, InTime, SettledNewest, SettledInTime, Holds}
 
 -- No run of any station, over any scheme, breaks what a run holds to.

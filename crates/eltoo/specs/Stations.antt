@@ -1,4 +1,5 @@
-use Rattle.std.specs.Prelude.{ℕ, zero, suc, Bool, true, false, not, ◌&&◌, ◌||◌, List, [], ◌∷◌, length, replicate, Some, None, sum, Option, ◌==◌, nat_le, nat_lt, slice_index, slice_index_or, slice_set}
+use Rattle.std.specs.Prelude.{ℕ, Bool, true, false, not, ◌&&◌, List, [], ◌∷◌, length, replicate, Some, None, sum, Option, is_some, is_none, ◌==◌, nat_le, nat_lt, option_map, slice_index, slice_index_or, slice_set}
+use Rattle.std.specs.List.{list_any, range_with_len}
 use Rattle.state.specs.declared.state.State.{State}
 use Rattle.state.specs.declared.update.Update.{Update}
 use Rattle.ledger.specs.declared.view.Parent.{Parent}
@@ -48,10 +49,6 @@ is_posted (settled n a) = false
 
 -- Tests of what is agreed.
 
-abbrev pub is_agreed : Option Update → Bool
-is_agreed None = false
-is_agreed (Some u) = true
-
 -- the number is not above the last agreed
 abbrev pub outdated : Option Update → ℕ → Bool
 outdated None number = false
@@ -59,8 +56,7 @@ outdated (Some u) number = nat_le number u.state.number.value
 
 -- the amount at an index of an agreed state
 abbrev pub allotted : Option Update → ℕ → Option ℕ
-allotted None i = None
-allotted (Some u) i = Some (slice_index u.state.amounts i)
+allotted o i = option_map (λ u. slice_index u.state.amounts i) o
 
 -- what a state of a place has to add up to: the funding of a root, or the amount at its index in the newest agreed state of its parent
 abbrev pub allotment_by : List (Option Update) → Option Parent → ℕ → Option ℕ
@@ -69,10 +65,6 @@ allotment_by t (Some u) funding = allotted (newest_at t u.place) u.index
 
 abbrev pub allotment : Model → List (Option Update) → ℕ → Option ℕ
 allotment m t p = allotment_by t (place_at m p).parent (place_at m p).funding
-
-abbrev pub unallotted : Option ℕ → Bool
-unallotted None = true
-unallotted (Some v) = false
 
 abbrev pub differs : Option ℕ → ℕ → Bool
 differs None v = false
@@ -93,8 +85,7 @@ binds m t x c = binds_by (place_at m c).parent (newest_at t c) x
 
 -- the test holds of some number below n
 abbrev pub any_below : ℕ → (ℕ → Bool) → Bool
-any_below zero test = false
-any_below (suc n) test = any_below n test || test n
+any_below n test = list_any test (range_with_len 0 n)
 
 -- The checks of the calls, in their order.
 
@@ -104,7 +95,7 @@ agree_checks s x =
     ∷ (is_settled (status s.ledger x.place), 5)
     ∷ (is_posted (status s.ledger x.place), 9)
     ∷ (outdated (newest_at s.newest x.place) x.number.value, 7)
-    ∷ (unallotted (allotment s.ledger s.newest x.place), 10)
+    ∷ (is_none (allotment s.ledger s.newest x.place), 10)
     ∷ (differs (allotment s.ledger s.newest x.place) (total x), 6)
     ∷ (any_below (count s.ledger) (binds s.ledger s.newest x), 11)
     ∷ signing_checks s.seals
@@ -113,7 +104,7 @@ abbrev pub claim_checks : StationModel → ℕ → List (Bool × ℕ)
 claim_checks s p =
     (not (nat_lt p (count s.ledger)), 1)
     ∷ (is_settled (status s.ledger p), 5)
-    ∷ (not (is_agreed (newest_at s.newest p)), 12)
+    ∷ (not (is_some (newest_at s.newest p)), 12)
     ∷ []
 
 -- the place is there and the seal is good, and then the host's own checks

@@ -1,14 +1,18 @@
 -- A factory as it is made.
-use Rattle.std.proofs.Common.{◌≡◌, ℕ, zero, suc, ◌<◌, ◌≤◌, Bool, true, false, List, [], ◌∷◌, ◌++◌, map, length, get_or, sym, refl, ap, ◌∙◌, subst, arith}
-use Rattle.std.proofs.lemmas.List.{get_or_past}
+use Rattle.std.proofs.Common.{◌≡◌, ℕ, zero, suc, ◌<◌, ◌≤◌, Bool, true, false, List, [], ◌∷◌, ◌++◌, map, length, get_or, Ok, Err, Some, Result, sym, refl, ap, ◌∙◌, subst, arith}
+use Rattle.std.specs.Result.{result_ok}
+use Rattle.std.proofs.lemmas.Simd.{map-map}
 use Rattle.std.proofs.lemmas.Bool.Decides.{nat_tests}
 use Rattle.ledger.specs.declared.row.Row.{Row}
 use Rattle.ledger.specs.Laws.{Lawful, Untouched, child, has_children}
-use Rattle.ledger.specs.Model.{Model, Place, Stage, fresh, nowhere, value_by, status, status_by, shows_state}
+use Rattle.ledger.specs.Model.{Model, Place, Stage, fresh}
 use Rattle.ledger.specs.Rows.{stage_of}
-use Rattle.ledger.specs.SetUps.{delay_made, figures, new_figures}
+use Rattle.ledger.specs.SetUps.{blocks_of, delay_made, figures, open_figures, new_figures}
+use Rattle.state.specs.declared.quantity.Delay.{Delay}
 use Rattle.ledger.proofs.Offspring.{no_child}
-use Rattle.factory.specs.Extending.{children, max_below, grows, extended, founds, new_children, founded_by, founded}
+use Rattle.state.specs.declared.refusal.Refusal.{Refusal}
+use Rattle.factory.specs.declared.children.Children.{Children}
+use Rattle.factory.specs.Extending.{children, max_below, fits, extended, founds, new_children, founded_by, founded, Founds}
 use Rattle.factory.specs.Laying.{ext_lawful, ext_untouched}
 
 -- new rows are new children, and hold no state
@@ -29,49 +33,45 @@ new_fresh good (r ∷ rows) (x ∷ ds) h d zero l = let first : figures r ≡ ne
 new_fresh good (r ∷ rows) (x ∷ ds) h d (suc i) l = new_fresh good rows ds (cc) d i (omega arith)
 
 -- what an accepted set-up says
-record Founds (m : Model) (seat : ℕ) (ds : List ℕ) : Type 0 where
+record Accepted (m : Model) (seat : ℕ) : Type 0 where
   seated : seat < length m.places
   leaf : has_children seat m.places ≡ false
   room : length m.places ≤ max_below
-  live : grows true m seat ≡ true
 
-founds_parts : (m : Model) (seat : ℕ) (ds : List ℕ) → founds m seat ds ≡ true → Founds m seat ds
-founds_parts m seat ds e =
-    record { seated = grind (arith, nat_tests); leaf = grind (arith, nat_tests); room = grind (arith, nat_tests); live = grind (arith, nat_tests) }
+accepted_parts : (m : Model) (seat : ℕ) (ds : List ℕ) → founds m seat ds ≡ true → Accepted m seat
+accepted_parts m seat ds e = record { seated = grind (arith, nat_tests); leaf = grind (arith, nat_tests); room = grind (arith, nat_tests) }
 
--- what is made
-pub record Made (live : Bool) (m : Model) (seat : ℕ) (rows : List Row) (ds : List ℕ) : Type 0 where
-  pub start : extended (grows live m seat) m seat rows ≡ founded m seat ds
-  pub lawful : Lawful m → Lawful (extended (grows live m seat) m seat rows)
-  pub untouched : Lawful m → Untouched m → Untouched (extended (grows live m seat) m seat rows)
+pub made_fits : (r : Result Children Refusal) (m : Model) (seat : ℕ) (ds : List ℕ) → Founds r m seat ds → fits (result_ok r) m ≡ true
+made_fits (Ok c) m seat ds f = let a = accepted_parts m seat ds f.0 in let s : c.seat ≡ seat = f.1 in let seated = a.seated in let room = a.room in grind (arith, nat_tests)
+made_fits (Err e) m seat ds f = refl
 
-made_by : (flag live : Bool) (m : Model) (seat : ℕ) (rows : List Row) (ds : List ℕ) → founds m seat ds ≡ flag → live ≡ flag → length rows ≡ 8 → map figures rows ≡ map (new_figures live) ds → Made live m seat rows ds
-made_by true live m seat [] ds e i l h = absurd (omega arith)
-made_by true live m seat (r ∷ rest) ds e i l h =
-    let rows : List Row = r ∷ rest in
-    let f = founds_parts m seat ds e in
-    let on : grows live m seat ≡ true = ap (λ b. grows b m seat) i ∙ f.live in
-    let new : map figures rows ≡ map (new_figures true) ds = subst (λ b. map figures rows ≡ map (new_figures b) ds) i h in
-    let leaf = no_child seat m.places f.leaf in
-    let empty = new_fresh true rows ds new r in
-    let full : extended true m seat rows ≡ founded m seat ds
-    = ap (λ (ps : List Place). record { height = m.height; places = m.places ++ ps }) (new_children_lem seat 0 rows ds new) ∙ ap (λ b. founded_by b m seat ds) (sym e) in
-    record {
-      start = subst (λ b. extended b m seat rows ≡ founded m seat ds) (sym on) full;
-      lawful = λ law. subst (λ b. Lawful (extended b m seat rows)) (sym on) (ext_lawful seat rows m law.laid f.room f.seated l r law leaf empty);
-      untouched = λ law u. subst (λ b. Untouched (extended b m seat rows)) (sym on) (ext_untouched seat rows m law.laid f.room f.seated l r law leaf empty u);
-    }
-made_by false live m seat rows ds e i l h =
-    let off : grows live m seat ≡ false = ap (λ b. grows b m seat) i in
-    record {
-      start = subst (λ b. extended b m seat rows ≡ founded m seat ds) (sym off) (ap (λ b. founded_by b m seat ds) (sym e));
-      lawful = λ law. subst (λ b. Lawful (extended b m seat rows)) (sym off) law;
-      untouched = λ law u. subst (λ b. Untouched (extended b m seat rows)) (sym off) u;
-    }
+pub made_start : (r : Result Children Refusal) (m : Model) (seat : ℕ) (ds : List ℕ) → Founds r m seat ds → extended (result_ok r) m ≡ founded m seat ds
+made_start (Ok c) m seat ds f =
+    ap (λ (ps : List Place). record { height = m.height; places = m.places ++ ps }) (ap (λ s. children s 0 c.rows) f.1 ∙ new_children_lem seat 0 c.rows ds f.2)
+    ∙ ap (λ b. founded_by b m seat ds) (sym f.0)
+made_start (Err e) m seat ds f = ap (λ b. founded_by b m seat ds) (sym f)
 
-pub made : (live : Bool) (m : Model) (seat : ℕ) (rows : List Row) (ds : List ℕ) → live ≡ founds m seat ds → length rows ≡ 8 → map figures rows ≡ map (new_figures live) ds → Made live m seat rows ds
-made live m seat rows ds e l h = made_by (founds m seat ds) live m seat rows ds refl e l h
+pub made_lawful : (r : Result Children Refusal) (m : Model) (seat : ℕ) (ds : List ℕ) → Founds r m seat ds → Lawful m → Lawful (extended (result_ok r) m)
+made_lawful (Err e) m seat ds f law = law
+made_lawful (Ok c) m seat ds f law = go c.rows refl
+  where
+    a : Accepted m seat
+    a = accepted_parts m seat ds f.0
 
--- a place that is not there shows no state
-pub past_shows : (m : Model) (p : ℕ) → length m.places ≤ p → false ≡ shows_state (status m p)
-past_shows m p l = sym (ap (λ (x : Place). shows_state (status_by (value_by m.places x.parent x.funding) x.stage)) (get_or_past m.places p nowhere l))
+    go : (rows : List Row) → rows ≡ c.rows → Lawful (extended (Some c) m)
+    go [] s = absurd (omega (arith, ap length s, c.long))
+    go (r ∷ rows) s = ext_lawful c.seat c.rows m law.laid a.room (subst (λ k. k < length m.places) (sym f.1) a.seated) c.long r law (no_child c.seat m.places (ap (λ k. has_children k m.places) f.1 ∙ a.leaf)) (new_fresh true c.rows ds f.2 r)
+
+pub made_untouched : (r : Result Children Refusal) (m : Model) (seat : ℕ) (ds : List ℕ) → Founds r m seat ds → Lawful m → Untouched m → Untouched (extended (result_ok r) m)
+made_untouched (Err e) m seat ds f law u = u
+made_untouched (Ok c) m seat ds f law u = go c.rows refl
+  where
+    a : Accepted m seat
+    a = accepted_parts m seat ds f.0
+
+    go : (rows : List Row) → rows ≡ c.rows → Untouched (extended (Some c) m)
+    go [] s = absurd (omega (arith, ap length s, c.long))
+    go (r ∷ rows) s = ext_untouched c.seat c.rows m law.laid a.room (subst (λ k. k < length m.places) (sym f.1) a.seated) c.long r law (no_child c.seat m.places (ap (λ k. has_children k m.places) f.1 ∙ a.leaf)) (new_fresh true c.rows ds f.2 r) u
+
+pub open_given : (ds : List Delay) (rows : List Row) (given : List ℕ) → map figures rows ≡ map (λ d. open_figures (blocks_of d)) ds → map blocks_of ds ≡ map (delay_made true) given → map figures rows ≡ map (new_figures true) given
+open_given ds rows given r d = r ∙ sym (map-map open_figures blocks_of ds) ∙ ap (map open_figures) d ∙ map-map open_figures (delay_made true) given

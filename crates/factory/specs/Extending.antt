@@ -1,9 +1,13 @@
-use Rattle.std.specs.Prelude.{ℕ, suc, Bool, true, false, not, ◌&&◌, List, [], ◌∷◌, ◌++◌, length, nat_le, nat_lt}
+use Rattle.std.specs.Prelude.{◌≡◌, ℕ, suc, ◌+◌, ◌<◌, Bool, true, false, not, ◌&&◌, List, [], ◌∷◌, ◌++◌, length, Some, None, Ok, Err, Option, Result, nat_le, nat_lt, map}
+use Rattle.state.specs.declared.refusal.Refusal.{Refusal}
+use Rattle.state.specs.Limits.{parties}
 use Rattle.ledger.specs.declared.row.Row.{Row}
+use Rattle.ledger.specs.declared.view.Parent.{Parent}
 use Rattle.ledger.specs.Laws.{child, has_children}
 use Rattle.ledger.specs.Model.{Model, Place, fresh, status, shows_state}
 use Rattle.ledger.specs.Rows.{stage_of}
-use Rattle.ledger.specs.SetUps.{good_delays, delay_made}
+use Rattle.ledger.specs.SetUps.{good_delays, delay_made, figures, new_figures}
+use Rattle.factory.specs.declared.children.Children.{Children}
 
 -- The seat of a factory is the place below whose children it adds.
 
@@ -20,14 +24,25 @@ children seat i (r ∷ rows) = child_place seat i r ∷ children seat (suc i) ro
 abbrev pub max_below : ℕ
 max_below = 56
 
--- whether a factory adds its places: it was made against no refusal; and, of a value that no call makes, there is room and a seat
-abbrev pub grows : Bool → Model → ℕ → Bool
-grows live m seat = live && (nat_le (length m.places) max_below && nat_lt seat (length m.places))
+-- the seat is a place below, and there is room for its children
+abbrev pub fits : Option Children → Model → Bool
+fits None m = true
+fits (Some c) m = nat_le (length m.places) max_below && nat_lt c.seat (length m.places)
 
 -- the places below, and then the children of the seat
-abbrev pub extended : Bool → Model → ℕ → List Row → Model
-extended true m seat rows = record { height = m.height; places = m.places ++ children seat 0 rows }
-extended false m seat rows = m
+abbrev pub extended : Option Children → Model → Model
+extended None m = m
+extended (Some c) m = record { height = m.height; places = m.places ++ children c.seat 0 c.rows }
+
+-- a place is the child of the seat at an index
+abbrev pub IsChild : Option Children → Model → ℕ → Parent → Type 0
+IsChild None m p q = ⊥
+IsChild (Some c) m p q = (q.place ≡ c.seat) × (q.index < parties) × (p ≡ length m.places + q.index)
+
+-- the parent of a place that is a child; every other place that the factory has is one below
+abbrev pub ParentIs : Option Parent → Option Children → Model → ℕ → Type 0
+ParentIs None o m p = p < length (extended o m).places → p < length m.places
+ParentIs (Some q) o m p = IsChild o m p q
 
 -- The set-up.
 
@@ -56,3 +71,8 @@ founded_by false m seat delays = m
 
 abbrev pub founded : Model → ℕ → List ℕ → Model
 founded m seat delays = founded_by (founds m seat delays) m seat delays
+
+-- the children that a set-up makes, and none against a refusal
+abbrev pub Founds : Result Children Refusal → Model → ℕ → List ℕ → Type 0
+Founds (Ok c) m seat delays = (founds m seat delays ≡ true) × (c.seat ≡ seat) × (map figures c.rows ≡ map (new_figures true) delays)
+Founds (Err e) m seat delays = founds m seat delays ≡ false

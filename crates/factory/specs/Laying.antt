@@ -1,5 +1,5 @@
 -- The layout of a factory's places, and its laws.
-use Rattle.std.specs.Prelude.{◌≡◌, ℕ, ◌+◌, ◌-◌, ◌<◌, ◌≤◌, Bool, true, false, ◌⊎◌, List, [], ◌∷◌, length, get_or, Some, Option, ◌≢◌, slice_index_or, refl}
+use Rattle.std.specs.Prelude.{◌≡◌, ℕ, ◌+◌, ◌-◌, ◌<◌, ◌≤◌, true, false, None, ◌⊎◌, List, [], ◌∷◌, length, get_or, Some, Option, ◌≢◌, slice_index_or, refl}
 use Rattle.std.proofs.Common.{sym, ap, subst, ◌∙◌, inl, inr, arith}
 use Rattle.std.proofs.lemmas.Bool.{cases_lt}
 use Rattle.state.specs.Limits.{min_delay, max_delay, parties}
@@ -10,8 +10,9 @@ use Rattle.ledger.specs.Model.{Model, Place, fresh, place_at, value_of, share, s
 use Rattle.ledger.specs.Rows.{stage_of}
 use Rattle.ledger.proofs.Changing.{some_same}
 use Rattle.ledger.proofs.Starting.{unused_shows}
-use Rattle.factory.specs.Extending.{child_place, max_below, grows, extended}
-use Rattle.factory.specs.Extended.{ext, count_ext, lower_place, lower_value, upper_place, upper_value, grown}
+use Rattle.factory.specs.declared.children.Children.{Children}
+use Rattle.factory.specs.Extending.{child_place, max_below, fits, extended}
+use Rattle.factory.specs.Extended.{ext, count_ext, lower_place, lower_value, upper_place, upper_value, fitted}
 
 module _ (seat : ℕ) (rows : List Row) (m : Model) (lay : Laid m) (room : length m.places ≤ max_below) (seated : seat < length m.places) (long : length rows ≡ 8) (d : Row) where
   abbrev x : Model
@@ -99,10 +100,10 @@ module _ (seat : ℕ) (rows : List Row) (m : Model) (lay : Laid m) (room : lengt
         both (λ _ q v. shows_state (status_by v q.stage) ≡ false) u
         (λ p i w e. ap (λ s. shows_state (status_by (share (place_at m seat).stage i) s)) (new i w) ∙ unused_shows (share (place_at m seat).stage i))
 
-laid_by : (flag live : Bool) (seat : ℕ) (rows : List Row) (m : Model) → grows live m seat ≡ flag → Laid m → length rows ≡ 8 → Laid (extended flag m seat rows)
-laid_by true live seat [] m e lay long = absurd (omega arith)
-laid_by true live seat (r ∷ rows) m e lay long = let g = grown live m seat e in ext_laid seat (r ∷ rows) m lay g.room g.seated long r
-laid_by false live seat rows m e lay long = lay
-
-pub factory_laid : (live : Bool) (seat : ℕ) (rows : List Row) (m : Model) → Laid m → length rows ≡ 8 → Laid (extended (grows live m seat) m seat rows)
-factory_laid live seat rows m lay long = laid_by (grows live m seat) live seat rows m refl lay long
+pub factory_laid : (o : Option Children) (m : Model) → fits o m ≡ true → Laid m → Laid (extended o m)
+factory_laid None m e lay = lay
+factory_laid (Some c) m e lay = by_rows c.rows refl
+  where
+    by_rows : (rows : List Row) → rows ≡ c.rows → Laid (extended (Some c) m)
+    by_rows [] s = absurd (omega (arith, ap length s, c.long))
+    by_rows (r ∷ rows) s = let f = fitted c m e in ext_laid c.seat c.rows m lay f.room f.seated c.long r

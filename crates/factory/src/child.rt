@@ -1,71 +1,53 @@
-ghost use Rattle.std.specs.Prelude.{◌≡◌, ◌+◌, ◌<◌, ◌≤◌, false, length};
-ghost use Rattle.factory.specs.Extending.{grows};
+ghost use Rattle.std.specs.Prelude.{◌≡◌, false};
+ghost use Rattle.factory.specs.Extending.{IsChild, ParentIs};
 ghost use Rattle.factory.specs.Factories.{model_of};
-ghost use Rattle.ledger.specs.Model.{place_at, value_of, PlaceShows, Looks};
-ghost use Rattle.ledger.specs.Rows.{call_checks, call_next};
-ghost use Rattle.ledger.specs.Steps.{Does, is_none, place_checks, with_stage, post_checks, post_next, settle_checks, settle_next, advance_checks, advance_next};
+ghost use Rattle.ledger.specs.Model.{place_at, value_of, PlaceShows};
+ghost use Rattle.ledger.specs.Rows.{DoesAt};
+ghost use Rattle.ledger.specs.Steps.{is_none};
 
 use crate::factory::Factory;
+use ledger::children::share;
 use ledger::host::{Host, Ledger};
 use ledger::phase::Call;
-use ledger::view::{Parent, Standing, View};
+use ledger::view::{Parent, View};
 use state::refusal::Refusal;
-use state::state::State;
-
-// The most places below a factory.
-pub(crate) const MAX_BELOW: usize = 56;
 
 impl<B: Host> Factory<B> {
-    // Whether the children are there; the count is of the places below, and asked
-    // for once, so that a pile's count costs one call for each host in it.
-    pub(crate) fn grown(&self, count: usize) -> bool
-        requires { count ≡ length (B.Ledger.model self.now.below).places }
-        ensures { result ≡ grows self.now.live (B.Ledger.model self.now.below) self.now.seat }
+    // The parent of a place that is a child of the seat, with the index that it has there.
+    #[tactic(auto, using(crate::proofs::Calling::child_count))]
+    pub(crate) fn parent_of(&self, place: usize) -> Option<Parent>
+        ensures { ParentIs result self.now.children (B.Ledger.model self.now.below) place }
     {
-        self.live && count <= MAX_BELOW && self.seat < count
+        let children = self.children.as_ref()?;
+        let index = place.checked_sub(self.below.count())?;
+        if index >= 8 {
+            return None;
+        }
+        Some(Parent {
+            place: children.seat,
+            index,
+        })
     }
 
-    // How many places there are, the children among them.
-    pub(crate) fn place_count(&self) -> usize
-        ensures most { result ≤ length (B.Ledger.model self.now.below).places + 8 }
-        ensures count { result ≡ length (model_of B.Ledger.model self.now).places }
-    {
-        let count = self.below.count();
-        if self.grown(count) { count + 8 } else { count }
-    }
-
-    // The value of the child at an index, none while it is shut.
-    pub(crate) fn value_at(&self, place: usize, index: usize) -> Option<u64>
-        requires at { place ≡ length (B.Ledger.model self.now.below).places + index }
-        requires small { index < 8 }
-        requires within { place < length (model_of B.Ledger.model self.now).places }
+    // The value of a child, none while it is shut.
+    #[tactic(auto, using(crate::proofs::Calling::child_value))]
+    pub(crate) fn value_at(&self, place: usize, parent: Parent) -> Option<u64>
+        requires { IsChild self.now.children (B.Ledger.model self.now.below) place parent }
         ensures { result ≡ value_of (model_of B.Ledger.model self.now) place }
     {
-        match self.below.view(self.seat) {
-            Ok(view) => match view.standing {
-                Standing::Settled { .. } => Some(view.amounts[index]),
-                _ => None,
-            },
-            Err(_) => None,
-        }
+        share(&self.below, parent.place, parent.index)
     }
 
-    // What the child at an index shows.
-    pub(crate) fn shown_at(&self, place: usize, index: usize) -> View
-        requires at { place ≡ length (B.Ledger.model self.now.below).places + index }
-        requires small { index < 8 }
-        requires within { place < length (model_of B.Ledger.model self.now).places }
+    // What a child shows.
+    pub(crate) fn shown_at(&self, place: usize, parent: Parent) -> View
+        requires { IsChild self.now.children (B.Ledger.model self.now.below) place parent }
         ensures { PlaceShows result (value_of (model_of B.Ledger.model self.now) place) (place_at (model_of B.Ledger.model self.now) place) }
     {
-        let value = self.value_at(place, index);
-        let row = self.rows[index];
-        let (standing, amounts) = row.shown(value);
-        let parent = Some(Parent {
-            place: self.seat,
-            index,
-        });
+        let children = self.children.as_ref().unwrap();
+        let row = &children.rows[parent.index];
+        let (standing, amounts) = row.shown(self.value_at(place, parent));
         View {
-            parent,
+            parent: Some(parent),
             delay: row.delay,
             funding: 0,
             standing,
@@ -73,46 +55,19 @@ impl<B: Host> Factory<B> {
         }
     }
 
-    // The step of a call at the child at an index, which has a value.
-    pub(crate) fn step_at(&mut self, place: usize, index: usize, call: Call) -> Result<(), Refusal>
-        requires at { place ≡ length (B.Ledger.model self.old.below).places + index }
-        requires small { index < 8 }
-        requires within { place < length (model_of B.Ledger.model self.old).places }
+    // The step of a call at a child, which has a value.
+    pub(crate) fn step_at(
+        &mut self,
+        place: usize,
+        parent: Parent,
+        call: Call,
+    ) -> Result<(), Refusal>
+        requires child { IsChild self.old.children (B.Ledger.model self.old.below) place parent }
         requires valued { is_none (value_of (model_of B.Ledger.model self.old) place) ≡ false }
-        ensures { Does result (model_of B.Ledger.model self.old) (model_of B.Ledger.model self.new) (place_checks (model_of B.Ledger.model self.old) place (call_checks call (place_at (model_of B.Ledger.model self.old) place).stage (place_at (model_of B.Ledger.model self.old) place).delay (model_of B.Ledger.model self.old).height)) (with_stage (model_of B.Ledger.model self.old) place (call_next call (place_at (model_of B.Ledger.model self.old) place).stage (model_of B.Ledger.model self.old).height)) }
+        ensures { DoesAt result (model_of B.Ledger.model self.old) (model_of B.Ledger.model self.new) place call }
     {
         let height = self.below.height();
-        let mut row = self.rows[index];
-        let answer = row.step(call, height);
-        self.rows[index] = row;
-        answer
-    }
-
-    // A call on a lower place is the call of the host below.
-    pub(crate) fn post_below(&mut self, state: &State) -> Result<(), Refusal>
-        requires { state.now.place < length (B.Ledger.model self.old.below).places }
-        ensures { Does result (model_of B.Ledger.model self.old) (model_of B.Ledger.model self.new) (post_checks (model_of B.Ledger.model self.old) state.now) (post_next (model_of B.Ledger.model self.old) state.now) }
-    {
-        self.below.post(state)
-    }
-
-    pub(crate) fn settle_below(&mut self, place: usize) -> Result<(), Refusal>
-        requires { place < length (B.Ledger.model self.old.below).places }
-        ensures { Does result (model_of B.Ledger.model self.old) (model_of B.Ledger.model self.new) (settle_checks (model_of B.Ledger.model self.old) place) (settle_next (model_of B.Ledger.model self.old) place) }
-    {
-        self.below.settle(place)
-    }
-
-    pub(crate) fn advance_below(&mut self, blocks: u64) -> Result<(), Refusal>
-        ensures { Does result (model_of B.Ledger.model self.old) (model_of B.Ledger.model self.new) (advance_checks (model_of B.Ledger.model self.old) blocks) (advance_next (model_of B.Ledger.model self.old) blocks) }
-    {
-        self.below.advance(blocks)
-    }
-
-    pub(crate) fn view_below(&self, place: usize) -> Result<View, Refusal>
-        requires { place < length (B.Ledger.model self.now.below).places }
-        ensures { Looks result (model_of B.Ledger.model self.now) place }
-    {
-        self.below.view(place)
+        let rows = &mut self.children.as_mut().unwrap().rows;
+        rows[parent.index].step(call, height)
     }
 }

@@ -1,15 +1,14 @@
-ghost use Rattle.std.specs.Prelude.{◌≡◌, length};
+ghost use Rattle.std.specs.Prelude.{◌≡◌, true};
+ghost use Rattle.factory.specs.Extending.{fits};
 
+use crate::children::Children;
 use ledger::host::Host;
-use ledger::row::Row;
 
-// The host below, the place of it whose children are added, and a row for each child.
+// The host below, and the children that are added to its places.
 #[derive(Drop)]
 pub struct Factory<B: Host> {
     pub(crate) below: B,
-    pub(crate) seat: usize,
-    // not so if it was made against a refusal: then it adds no place
-    pub(crate) live: bool,
-    pub(crate) rows: [Row; 8],
-    ghost long: { length rows ≡ 8 },
+    // none if it was made against a refusal: then it adds no place
+    pub(crate) children: Option<Children>,
+    ghost seated: { fits children (B.Ledger.model below) ≡ true },
 }

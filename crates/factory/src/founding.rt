@@ -1,87 +1,74 @@
-ghost use Rattle.std.specs.Prelude.{◌≡◌};
-ghost use Rattle.factory.specs.Extending.{founding_checks, founds, founded};
+ghost use Rattle.std.specs.Prelude.{◌≡◌, true, not, [], ◌∷◌, map, IfOk};
+ghost use Rattle.factory.specs.Extending.{founding_checks, founded, Founds};
 ghost use Rattle.factory.specs.Factories.{model_of};
 ghost use Rattle.ledger.specs.Laws.{Lawful, Untouched};
 ghost use Rattle.ledger.specs.Model.{status, shows_state};
+ghost use Rattle.ledger.specs.SetUps.{good_delays, figures, new_figures};
 ghost use Rattle.state.specs.Refusals.{answer, first};
 
-use crate::child::MAX_BELOW;
+use crate::children::Children;
 use crate::factory::Factory;
 use ledger::children::has_children;
 use ledger::host::{Host, Ledger};
-use ledger::setting::{good_delays, rows_made};
+use ledger::row::Row;
+use ledger::setting::delays_of;
 use ledger::view::Standing;
 use state::refusal::Refusal;
 
+// The most places below a factory.
+const MAX_BELOW: usize = 56;
+
 // Whether a place is posted or settled.
-fn shows_state<B: Host>(below: &B, seat: usize) -> bool
-    ensures { result ≡ shows_state (status (B.Ledger.model below.now) seat) }
+fn shows_state<L: Ledger>(below: &L, seat: usize) -> bool
+    ensures { result ≡ shows_state (status (L.Ledger.model below.now) seat) }
 {
-    match below.view(seat) {
-        Ok(view) => match view.standing {
-            Standing::Shut => false,
-            Standing::Open => false,
-            Standing::Posted { .. } => true,
-            Standing::Settled { .. } => true,
-        },
-        Err(_) => false,
-    }
+    below.view(seat).is_ok_and(|view| {
+        matches!(
+            view.standing,
+            Standing::Posted { .. } | Standing::Settled { .. }
+        )
+    })
 }
 
-// Whether a factory over this seat is taken.
-fn is_founded<B: Host>(below: &B, seat: usize, delays: &[u64; 8]) -> bool
-    ensures { result ≡ founds (B.Ledger.model below.now) seat delays.now }
+// Rows that hold no state, with these delays.
+fn open_rows(delays: &[u64; 8]) -> Result<[Row; 8], Refusal>
+    ensures answer { answer result ≡ first ((not (good_delays delays.now), 20) ∷ []) }
+    ensures rows { IfOk result (λ rows. map figures rows ≡ map (new_figures true) delays.now) }
+{
+    Ok(delays_of(delays)?.map(Row::open))
+}
+
+// The children of a seat. 20 if the seat is no place below, has children, or is posted or settled; if a delay is bad; or if there is no room for eight places more.
+fn children<L: Ledger>(below: &L, seat: usize, delays: &[u64; 8]) -> Result<Children, Refusal>
+    ensures answer { answer result ≡ first (founding_checks (L.Ledger.model below.now) seat delays.now) }
+    ensures made { Founds result (L.Ledger.model below.now) seat delays.now }
 {
     let count = below.count();
-    seat < count
-        && !has_children(below, seat)
-        && !shows_state(below, seat)
-        && good_delays(delays)
-        && count <= MAX_BELOW
-}
-
-// The factory over a seat; it adds no place unless it is live.
-fn opened<B: Host>(below: B, seat: usize, delays: &[u64; 8], live: bool) -> Factory<B>
-    requires { live ≡ founds (B.Ledger.model below) seat delays.now }
-    ensures below { result.below ≡ below }
-    ensures start { model_of B.Ledger.model result ≡ founded (B.Ledger.model below) seat delays.now }
-    ensures lawful { Lawful (B.Ledger.model below) → Lawful (model_of B.Ledger.model result) }
-    ensures untouched { Lawful (B.Ledger.model below) → Untouched (B.Ledger.model below) → Untouched (model_of B.Ledger.model result) }
-{
-    let rows = rows_made(delays, live);
-    Factory {
-        below,
-        seat,
-        live,
-        rows,
+    if seat >= count || has_children(below, seat) || shows_state(below, seat) || count > MAX_BELOW {
+        return Err(Refusal::BadSetUp);
     }
+    let rows = open_rows(delays)?;
+    Ok(Children { seat, rows })
 }
 
 impl<B: Host> Factory<B> {
-    // 20 if the seat is no place below, has children, or is posted or settled; if a delay is bad; or if there is no room for eight places more.
+    // 20 if no factory can be made over this seat with these delays.
     pub fn check(below: &B, seat: usize, delays: &[u64; 8]) -> Result<(), Refusal>
         ensures { answer result ≡ first (founding_checks (B.Ledger.model below.now) seat delays.now) }
     {
-        let count = below.count();
-        if seat >= count
-            || has_children(below, seat)
-            || shows_state(below, seat)
-            || !good_delays(delays)
-            || count > MAX_BELOW
-        {
-            return Err(Refusal::BadSetUp);
-        }
+        children(below, seat, delays)?;
         Ok(())
     }
 
     // Eight places more, the children of the seat, with these delays. Against a refusal of `check`, a factory that adds no place.
+    #[tactic(auto, using(crate::proofs::Making::made_start, crate::proofs::Making::made_lawful, crate::proofs::Making::made_untouched))]
     pub fn over(below: B, seat: usize, delays: &[u64; 8]) -> Factory<B>
         ensures below { result.below ≡ below }
         ensures start { model_of B.Ledger.model result ≡ founded (B.Ledger.model below) seat delays.now }
         ensures lawful { Lawful (B.Ledger.model below) → Lawful (model_of B.Ledger.model result) }
         ensures untouched { Lawful (B.Ledger.model below) → Untouched (B.Ledger.model below) → Untouched (model_of B.Ledger.model result) }
     {
-        let live = is_founded(&below, seat, delays);
-        opened(below, seat, delays, live)
+        let children = children(&below, seat, delays).ok();
+        Factory { below, children }
     }
 }

@@ -14,7 +14,7 @@ use state::state::State;
 impl<B: Host> Ledger for Factory<B> {
     ghost model = { model_of B.Ledger.model };
 
-    ghost laid = { λ s. factory_laid s.live s.seat s.rows (B.Ledger.model s.below) (B.Ledger.laid s.below) s.long };
+    ghost laid = { λ s. factory_laid s.children (B.Ledger.model s.below) s.seated (B.Ledger.laid s.below) };
 
     ghost two = { λ s law. laws_hold _ law };
 
@@ -22,19 +22,20 @@ impl<B: Host> Ledger for Factory<B> {
         self.below.height()
     }
 
+    #[tactic(auto, using(crate::proofs::Calling::child_count))]
     fn count(&self) -> usize {
-        self.place_count() // the children among them
+        let count = self.below.count();
+        match self.children {
+            Some(_) => count + 8,
+            None => count,
+        }
     }
 
     fn view(&self, place: usize) -> Result<View, Refusal> {
-        if place >= self.place_count() {
-            return Err(Refusal::NoSuchPlace);
+        match self.parent_of(place) {
+            Some(parent) => Ok(self.shown_at(place, parent)),
+            None => self.below.view(place),
         }
-        let base = self.below.count();
-        if place < base {
-            return self.view_below(place);
-        }
-        Ok(self.shown_at(place, place - base))
     }
 }
 
@@ -43,42 +44,23 @@ impl<B: Host> Host for Factory<B> {
 
     fn post(&mut self, state: &State) -> Result<(), Refusal> {
         let place = state.place;
-        if place >= self.place_count() {
-            return Err(Refusal::NoSuchPlace);
-        }
-        let base = self.below.count();
-        if place < base {
-            return self.post_below(state);
-        }
-        let index = place - base;
-        let Some(value) = self.value_at(place, index) else {
-            return Err(Refusal::Shut);
+        let Some(parent) = self.parent_of(place) else {
+            return self.below.post(state);
         };
-        self.step_at(
-            place,
-            index,
-            Call::Post {
-                state: *state,
-                value,
-            },
-        )
+        let value = self.value_at(place, parent).ok_or(Refusal::Shut)?;
+        let state = *state;
+        self.step_at(place, parent, Call::Post { state, value })
     }
 
     fn settle(&mut self, place: usize) -> Result<(), Refusal> {
-        if place >= self.place_count() {
-            return Err(Refusal::NoSuchPlace);
-        }
-        let base = self.below.count();
-        if place < base {
-            return self.settle_below(place);
-        }
-        let Some(_) = self.value_at(place, place - base) else {
-            return Err(Refusal::Shut);
+        let Some(parent) = self.parent_of(place) else {
+            return self.below.settle(place);
         };
-        self.step_at(place, place - base, Call::Settle)
+        self.value_at(place, parent).ok_or(Refusal::Shut)?;
+        self.step_at(place, parent, Call::Settle)
     }
 
     fn advance(&mut self, blocks: u64) -> Result<(), Refusal> {
-        self.advance_below(blocks)
+        self.below.advance(blocks)
     }
 }

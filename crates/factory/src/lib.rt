@@ -2,6 +2,7 @@
 #![tactic(auto)]
 
 mod child;
+mod children;
 pub mod factory;
 pub mod founding;
 pub mod host;

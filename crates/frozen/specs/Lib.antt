@@ -1,3 +1,2 @@
 pub mod Copies
 pub mod Holding
-pub mod Held

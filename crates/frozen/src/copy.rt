@@ -1,9 +1,8 @@
-ghost use Rattle.std.specs.Prelude.{◌≡◌};
+ghost use Rattle.std.specs.Prelude.{◌≡◌, ℕ, None, slice_index_or};
 ghost use Rattle.frozen.specs.Copies.{model_of};
-ghost use Rattle.frozen.specs.Held;
+ghost use Rattle.frozen.specs.Holding.{Holds};
 ghost use Rattle.ledger.proofs.Keeping.{laws_hold};
 
-use crate::holding::views_of;
 use crate::snapshot::Frozen;
 use ledger::host::Ledger;
 use ledger::view::View;
@@ -13,7 +12,7 @@ use state::refusal::Refusal;
 impl Ledger for Frozen {
     ghost model = { model_of };
 
-    ghost laid = { λ s. Held.laid s };
+    ghost laid = { λ s. s.laid };
 
     ghost two = { λ s law. laws_hold _ law };
 
@@ -21,23 +20,40 @@ impl Ledger for Frozen {
         self.height // of the moment
     }
 
+    #[tactic(auto, using(crate::proofs::Copying::held_count))]
     fn count(&self) -> usize {
-        self.place_count() // of the moment
+        self.views.iter().filter(|view| view.is_some()).count()
     }
 
     fn view(&self, place: usize) -> Result<View, Refusal> {
-        if place >= self.place_count() {
-            return Err(Refusal::NoSuchPlace);
-        }
-        Ok(self.shown_at(place))
+        self.views
+            .get(place)
+            .copied()
+            .flatten()
+            .ok_or(Refusal::NoSuchPlace)
     }
+}
+
+// What every place of a ledger shows, and after them nothing.
+fn views_of<L: Ledger>(ledger: &L) -> [Option<View>; 64]
+    ensures { (p : ℕ) → Holds (slice_index_or result p None) (L.Ledger.model ledger.now) p }
+{
+    let mut views = [None; 64];
+    for (place, view) in views.iter_mut().enumerate() {
+        *view = ledger.view(place).ok();
+    }
+    views
 }
 
 impl Frozen {
     // A copy that shows what the ledger shows now.
+    #[tactic(auto, using(crate::proofs::Copying::copy_is))]
     pub fn of<L: Ledger>(ledger: &L) -> Frozen
         ensures { model_of result ≡ L.Ledger.model ledger.now }
     {
-        Frozen::taken(ledger, ledger.height(), ledger.count())
+        Frozen {
+            height: ledger.height(),
+            views: views_of(ledger),
+        }
     }
 }

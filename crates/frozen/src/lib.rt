@@ -2,5 +2,4 @@
 #![tactic(auto)]
 
 pub mod copy;
-mod holding;
 pub mod snapshot;

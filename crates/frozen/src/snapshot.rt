@@ -1,17 +1,15 @@
-ghost use Rattle.std.specs.Prelude.{◌≡◌, ℕ, ◌≤◌, true, map, length, slice_index_or};
-ghost use Rattle.frozen.specs.Holding.{held_place, tied_by};
-ghost use Rattle.ledger.specs.Model.{nowhere};
+ghost use Rattle.std.specs.Prelude.{ℕ, None, slice_index_or};
+ghost use Rattle.frozen.specs.Holding.{Holds, held_model, Laid-prop, Holds-prop};
+ghost use Rattle.ledger.specs.Laws.{Laid};
 
 use ledger::view::View;
 use state::quantity::Height;
 
-// What every place of a ledger showed at one moment.
+// What every place of a ledger showed at one moment, and after them nothing.
 #[derive(Drop)]
 pub struct Frozen {
     pub(crate) height: Height,
-    pub(crate) count: usize,
-    pub(crate) views: [View; 64],
-    ghost few: { count ≤ 64 },
-    ghost long: { length views ≡ 64 },
-    ghost tied: { (k : ℕ) → tied_by (slice_index_or (map held_place views) k nowhere).parent (slice_index_or (map held_place views) k nowhere).funding k ≡ true },
+    pub(crate) views: [Option<View>; 64],
+    ghost laid: { Laid (held_model height.blocks views) } by { Laid-prop _ },
+    ghost holds: { (p : ℕ) → Holds (slice_index_or views p None) (held_model height.blocks views) p } by { λ a b i p. Holds-prop _ _ p (a p) (b p) i },
 }

@@ -1,7 +1,9 @@
 pub mod Changing
 pub mod Keeping
 pub mod Lifting
+pub mod Mapping
 pub mod Offspring
+pub mod Rooted
 pub mod SettingUp
 pub mod Showing
 pub mod Starting

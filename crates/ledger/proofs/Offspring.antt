@@ -1,7 +1,7 @@
 -- Places with children.
-use Rattle.std.proofs.Common.{◌≡◌, ℕ, zero, suc, ◌+◌, ◌<◌, ◌≤◌, Bool, true, false, ◌||◌, eqb, List, [], ◌∷◌, length, get_or, drop, Some, None, Option, sym, ap, ◌∙◌, ⊎_elim, arith}
-use Rattle.std.proofs.lemmas.List.{get_or_past, at_drop_more, at_drop_all}
+use Rattle.std.proofs.Common.{◌≡◌, ℕ, zero, suc, ◌+◌, ◌<◌, Bool, true, false, ◌||◌, eqb, List, [], ◌∷◌, length, get_or, Some, None, Option, refl, ap, ◌∙◌, ⊎_elim, arith}
 use Rattle.std.proofs.lemmas.Bool.{or_parts, or_cases, eq-eqb, eqb-true, both_ways}
+use Rattle.std.specs.List.{list_any, range_with_len}
 use Rattle.ledger.specs.declared.view.Parent.{Parent}
 use Rattle.ledger.specs.Laws.{child, child_of, has_children}
 use Rattle.ledger.specs.Model.{Model, Place, nowhere, place_at}
@@ -30,20 +30,13 @@ some_child q (r ∷ ps) h =
     (λ (b : has_children q ps ≡ true). let k = some_child q ps b in (suc k.0, k.1, omega (arith, k.2), k.3))
     (or_cases (child_of q r.parent) (has_children q ps) h)
 
--- a place that is not there has no parent
-pub past_child : (m : Model) (q p : ℕ) → length m.places ≤ p → false ≡ child_of q (place_at m p).parent
-past_child m q p l = sym (ap (λ (x : Place). child_of q x.parent) (get_or_past m.places p nowhere l))
+-- the search through the places
+any_from : (q : ℕ) (test : ℕ → Bool) (ps : List Place) (a : ℕ) → ((i : ℕ) → i < length ps → test (a + i) ≡ child_of q (get_or ps i nowhere).parent) → list_any test (range_with_len a (length ps)) ≡ has_children q ps
+any_from q test [] a h = refl
+any_from q test (r ∷ ps) a h =
+    let z : a ≡ a + 0 = omega arith in
+    ap (λ b. b || list_any test (range_with_len (a + 1) (length ps))) (ap test z ∙ h 0 (omega arith))
+    ∙ ap (λ b. child_of q r.parent || b) (any_from q test ps (a + 1) (λ i l. let e : a + 1 + i ≡ a + suc i = omega arith in ap test e ∙ h (suc i) (omega arith)))
 
--- the loop over the places
-module _ (q : ℕ) (ps : List Place) (i : ℕ) (so_far : has_children q (drop i ps) ≡ has_children q ps) where
-  more : i < length ps → (b : Bool) → b ≡ child_of q (get_or ps i nowhere).parent → b || has_children q (drop (i + 1) ps) ≡ has_children q ps
-  more l b e = ap (λ y. y || has_children q (drop (i + 1) ps)) e ∙ sym (at_drop_more (has_children q) ps i nowhere l) ∙ so_far
-
-  pub child_found : i < length ps → true ≡ child_of q (get_or ps i nowhere).parent → true ≡ has_children q ps
-  child_found l e = more l true e
-
-  pub child_not_yet : i < length ps → false ≡ child_of q (get_or ps i nowhere).parent → has_children q (drop (i + 1) ps) ≡ has_children q ps
-  child_not_yet l e = more l false e
-
-  pub child_nowhere : length ps ≤ i → false ≡ has_children q ps
-  child_nowhere l = sym (at_drop_all (has_children q) ps i l) ∙ so_far
+pub any_child : (q : ℕ) (m : Model) → list_any (λ p. child_of q (place_at m p).parent) (range_with_len 0 (length m.places)) ≡ has_children q m.places
+any_child q m = any_from q (λ p. child_of q (place_at m p).parent) m.places 0 (λ i l. let e : 0 + i ≡ i = omega arith in ap (λ k. child_of q (place_at m k).parent) e)

@@ -1,11 +1,12 @@
-use Rattle.std.specs.Prelude.{ℕ, ◌-◌, Bool, List}
+use Rattle.std.specs.Prelude.{ℕ, ◌-◌, Bool, List, Result}
 use Rattle.ledger.specs.declared.phase.Phase.{Phase}
 use Rattle.ledger.specs.declared.phase.Phase.TheVariants.{Open, Posted, Settled}
 use Rattle.ledger.specs.declared.phase.Call.{Call}
 use Rattle.ledger.specs.declared.phase.Call.TheVariants.{Post, Settle}
 use Rattle.ledger.specs.declared.row.Row.{Row}
-use Rattle.ledger.specs.Model.{Stage, fresh, holds, done}
-use Rattle.ledger.specs.Steps.{post_stage_checks, settle_stage_checks, posted_stage, settled_stage}
+use Rattle.state.specs.declared.refusal.Refusal.{Refusal}
+use Rattle.ledger.specs.Model.{Model, Stage, fresh, holds, done, place_at}
+use Rattle.ledger.specs.Steps.{Does, place_checks, with_stage, post_stage_checks, settle_stage_checks, posted_stage, settled_stage}
 
 -- what a row holds
 abbrev pub stage_by : Phase → ℕ → List ℕ → Stage
@@ -24,3 +25,10 @@ call_checks Settle s delay height = settle_stage_checks s delay height
 abbrev pub call_next : Call → Stage → ℕ → Stage
 call_next (Post x value) s height = posted_stage x height
 call_next Settle s height = settled_stage s
+
+-- a call at a place does its step
+abbrev pub DoesAt : {A : Type 0} → Result A Refusal → Model → Model → ℕ → Call → Type 0
+DoesAt r before after p call =
+    Does r before after
+    (place_checks before p (call_checks call (place_at before p).stage (place_at before p).delay before.height))
+    (with_stage before p (call_next call (place_at before p).stage before.height))

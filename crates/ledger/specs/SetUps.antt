@@ -1,6 +1,9 @@
-use Rattle.std.specs.Prelude.{ℕ, Bool, true, cond, not, ◌&&◌, ◌||◌, List, [], ◌∷◌, None, ◌==◌, nat_le}
+use Rattle.std.specs.Prelude.{ℕ, Bool, not, ◌&&◌, ◌||◌, List, [], ◌∷◌, None, ◌==◌, nat_le, if◌then◌else◌}
+use Rattle.std.specs.List.{list_all}
 use Rattle.state.specs.Limits.{min_delay, max_delay, max_total}
+use Rattle.state.specs.declared.quantity.Delay.{Delay}
 use Rattle.ledger.specs.declared.setup.SetUp.{SetUp}
+use Rattle.ledger.specs.declared.setup.Terms.{Terms}
 use Rattle.ledger.specs.declared.row.Row.{Row}
 use Rattle.ledger.specs.Model.{Model, Place, Stage, fresh}
 use Rattle.ledger.specs.Rows.{stage_of}
@@ -13,19 +16,14 @@ default_delay = 144
 abbrev pub good_delay : ℕ → Bool
 good_delay d = d == 0 || (nat_le min_delay d && nat_le d max_delay)
 
--- a test of each number
-abbrev pub each : (ℕ → Bool) → List ℕ → Bool
-each test [] = true
-each test (x ∷ xs) = test x && each test xs
-
 abbrev pub good_delays : List ℕ → Bool
-good_delays = each good_delay
+good_delays = list_all good_delay
 
 abbrev pub good_funding : ℕ → Bool
 good_funding f = nat_le f max_total
 
 abbrev pub good_fundings : List ℕ → Bool
-good_fundings = each good_funding
+good_fundings = list_all good_funding
 
 -- the checks of a set-up of a base host
 abbrev pub set_up_checks : SetUp → List (Bool × ℕ)
@@ -36,11 +34,21 @@ is_good s = good_fundings s.fundings && good_delays s.delays
 
 -- the delay of a place that is made; against a bad set-up it is the longest
 abbrev pub delay_made : Bool → ℕ → ℕ
-delay_made good d = cond (good && good_delay d) (cond (d == 0) default_delay d) max_delay
+delay_made good d = if (good && good_delay d) then (if (d == 0) then default_delay else d) else max_delay
 
 -- the funding of a root that is made; against a bad set-up it is 0
 abbrev pub funding_made : Bool → ℕ → ℕ
-funding_made good f = cond (good && good_funding f) f 0
+funding_made good f = if (good && good_funding f) then f else 0
+
+-- the numbers of delays and of terms
+abbrev pub blocks_of : Delay → ℕ
+blocks_of d = d.blocks
+
+abbrev pub funding_in : Terms → ℕ
+funding_in t = t.funding
+
+abbrev pub blocks_in : Terms → ℕ
+blocks_in t = t.delay.blocks
 
 -- a root that holds no state
 abbrev pub open_root : ℕ → ℕ → Place
@@ -62,6 +70,10 @@ started s = started_by (is_good s) s
 abbrev pub figures : Row → ℕ × Stage
 figures r = (r.delay.blocks, stage_of r)
 
+-- the figures of a row that holds no state
+abbrev pub open_figures : ℕ → ℕ × Stage
+open_figures delay = (delay, fresh)
+
 -- the figures of a new row
 abbrev pub new_figures : Bool → ℕ → ℕ × Stage
-new_figures good d = (delay_made good d, fresh)
+new_figures good d = open_figures (delay_made good d)

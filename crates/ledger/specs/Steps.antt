@@ -87,8 +87,12 @@ settle_checks m p = place_checks m p (settle_stage_checks (place_at m p).stage (
 abbrev pub settle_next : Model → ℕ → Model
 settle_next m p = with_stage m p (settled_stage (place_at m p).stage)
 
+-- the checks of raising a height
+abbrev pub rise_checks : ℕ → ℕ → List (Bool × ℕ)
+rise_checks height k = ((k == 0), 15) ∷ (nat_lt max_step k, 15) ∷ (nat_lt max_height (height + k), 16) ∷ []
+
 abbrev pub advance_checks : Model → ℕ → List (Bool × ℕ)
-advance_checks m k = ((k == 0), 15) ∷ (nat_lt max_step k, 15) ∷ (nat_lt max_height (m.height + k), 16) ∷ []
+advance_checks m k = rise_checks m.height k
 
 abbrev pub advance_next : Model → ℕ → Model
 advance_next m k = record { height = m.height + k; places = m.places }

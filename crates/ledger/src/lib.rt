@@ -4,6 +4,9 @@
 pub mod children;
 pub mod host;
 pub mod phase;
+pub mod rising;
+pub mod root;
+pub mod roots;
 pub mod row;
 pub mod rows;
 pub mod setting;

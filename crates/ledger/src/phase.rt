@@ -4,14 +4,14 @@ use state::quantity::StateNumber;
 use state::state::State;
 
 // The height from which a post is due, up to the last height and the longest delay.
-#[derive(Clone, Copy)]
+#[derive(Clone, Copy, PartialEq, Eq)]
 pub struct Deadline {
     pub blocks: u32,
     ghost high: { blocks ≤ 10002016 },
 }
 
 // Where a row stands, whatever its parent is.
-#[derive(Clone, Copy)]
+#[derive(Clone, Copy, PartialEq, Eq)]
 pub enum Phase {
     Open,
     Posted {

@@ -1,16 +1,28 @@
 ghost use Rattle.std.specs.Prelude.{◌≡◌};
 ghost use Rattle.ledger.specs.Model.{seen, status_by, shown_amounts};
 ghost use Rattle.ledger.specs.Rows.{stage_of, call_checks, call_next};
+ghost use Rattle.ledger.specs.SetUps.{figures, open_figures};
 ghost use Rattle.ledger.specs.Steps.{Does, posted_stage};
 
 use crate::phase::{Call, Deadline, Phase};
 use crate::row::Row;
 use crate::view::Standing;
-use state::quantity::Height;
+use state::quantity::{Delay, Height};
 use state::refusal::Refusal;
 use state::state::State;
 
 impl Row {
+    // A row that holds no state.
+    pub fn open(delay: Delay) -> Row
+        ensures { figures result ≡ open_figures delay.blocks }
+    {
+        Row {
+            delay,
+            phase: Phase::Open,
+            amounts: [0; 8],
+        }
+    }
+
     // What a row of a place of this value shows.
     pub fn shown(&self, value: Option<u64>) -> (Standing, [u64; 8])
         ensures { (seen result.0 result.1 ≡ status_by value (stage_of self.now)) × (result.1 ≡ shown_amounts (status_by value (stage_of self.now))) }
@@ -56,7 +68,7 @@ impl Row {
                 if state.total() != value {
                     return Err(Refusal::WrongTotal);
                 }
-                if state.number.value <= number.value {
+                if state.number <= *number {
                     return Err(Refusal::NotNewer);
                 }
                 self.hold(&state, height);

@@ -1,8 +1,8 @@
-use Rattle.std.specs.Prelude.{[], ◌∷◌, None}
+use Rattle.std.specs.Prelude.{[], ◌∷◌}
 use Rattle.ledger.specs.Model.{Model}
-use Rattle.ledger.specs.Rows.{stage_of}
+use Rattle.ledger.specs.Roots.{rooted}
 use Rattle.one_channel.specs.declared.channel.OneChannel.{OneChannel}
 
 -- one root
 abbrev pub model_of : OneChannel → Model
-model_of c = record { height = c.height.blocks; places = record { parent = None; delay = c.row.delay.blocks; funding = c.funding; stage = stage_of c.row } ∷ [] }
+model_of c = rooted c.height.blocks (c.root ∷ [])

@@ -9,12 +9,12 @@ ghost use Rattle.ledger.proofs.Keeping.{laws_hold, steps_keep};
 ghost use Rattle.ledger.proofs.Showing.{steps_show};
 
 use crate::channel::OneChannel;
-use ledger::host::{Host, Ledger, MAX_STEP};
-use ledger::phase::{Call, Phase};
-use ledger::row::Row;
+use ledger::host::{Host, Ledger};
+use ledger::rising::raised;
+use ledger::root::Root;
+use ledger::setup::Terms;
 use ledger::view::View;
-use state::making::MAX_TOTAL;
-use state::quantity::{Delay, Height, MAX_HEIGHT};
+use state::quantity::{Delay, Height};
 use state::refusal::Refusal;
 use state::state::State;
 
@@ -37,14 +37,7 @@ impl Ledger for OneChannel {
         if place != 0 {
             return Err(Refusal::NoSuchPlace);
         }
-        let (standing, amounts) = self.row.shown(Some(self.funding));
-        Ok(View {
-            parent: None,
-            delay: self.row.delay,
-            funding: self.funding,
-            standing,
-            amounts,
-        })
+        Ok(self.root.view())
     }
 }
 
@@ -56,29 +49,18 @@ impl Host for OneChannel {
         if state.place > 0 {
             return Err(Refusal::NoSuchPlace);
         }
-        let value = self.funding;
-        self.step(Call::Post {
-            state: *state,
-            value,
-        })
+        self.root.post(state, self.height)
     }
 
     fn settle(&mut self, place: usize) -> Result<(), Refusal> {
         if place > 0 {
             return Err(Refusal::NoSuchPlace);
         }
-        self.step(Call::Settle)
+        self.root.settle(self.height)
     }
 
     fn advance(&mut self, blocks: u64) -> Result<(), Refusal> {
-        if blocks == 0 || blocks > MAX_STEP {
-            return Err(Refusal::BadStep);
-        }
-        let next = self.height.blocks + blocks as u32;
-        if next > MAX_HEIGHT {
-            return Err(Refusal::LastBlock);
-        }
-        self.height = Height { blocks: next };
+        self.height = raised(self.height, blocks)?;
         Ok(())
     }
 }
@@ -91,18 +73,10 @@ impl OneChannel {
         ensures lawful { IfOk result (λ c. Lawful (model_of c)) }
         ensures untouched { IfOk result (λ c. Untouched (model_of c)) }
     {
-        if funding > MAX_TOTAL {
-            return Err(Refusal::BadSetUp);
-        }
-        let row = Row {
-            delay,
-            phase: Phase::Open,
-            amounts: [0; 8],
-        };
+        let terms = Terms::new(funding, delay)?;
         Ok(OneChannel {
             height: Height { blocks: 0 },
-            funding,
-            row,
+            root: Root::open(terms),
         })
     }
 }

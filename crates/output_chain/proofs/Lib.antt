@@ -1,4 +1,5 @@
+mod Filled
 mod Posts
 mod Settles
 mod Views
-mod Weights
+mod Tallies

@@ -1,18 +1,19 @@
--- The stages are read back from what the pool weighs.
+-- The stages are read back from the tallies of the pool.
 use Rattle.std.specs.Prelude.{◌≡◌, ℕ, zero, suc, ◌+◌, ◌<◌, ◌≤◌, true, false, cond, List, map, length, sum_by, Option, ◌==◌, ◌≢◌, slice_index, slice_index_or, refl}
 use Rattle.std.proofs.Common.{sym, ap, ◌∙◌, inl, inr, arith}
 use Rattle.std.proofs.Math.Path.{fun_ext}
 use Rattle.std.specs.List.{range_with_len}
 use Rattle.std.proofs.lemmas.List.Sums.{sum_by-cons}
+use Rattle.std.proofs.lemmas.Bool.Decides.{nat_tests}
 use Rattle.std.proofs.lemmas.Bool.{eq-eqb, ne_eqb, cases_eq}
 use Rattle.std.proofs.lemmas.List.FromFn.{fill_by_all}
 use Rattle.ledger.specs.Model.{Stage, fresh, holds, done}
 use Rattle.output_chain.specs.declared.output.Output.{Output}
-use Rattle.output_chain.specs.Coins.{Coin, funding, update, payout, weigh, outs, due, own, updates, payouts, number, since, amount, stage_by, stage_of}
+use Rattle.output_chain.specs.Coins.{Coin, funding, update, payout, tally, outs, due, own, updates, payouts, number, since, amount, stage_by, stage_of}
 
--- the pool holds the outputs of these stages, and no others: each weighing gives the same
+-- the pool holds the outputs of these stages, and no others: each tally gives the same
 abbrev pub Exact : List (Option Output) → List ℕ → (ℕ → Stage) → Type 0
-Exact cells vs S = (f : Coin → ℕ) → weigh cells f ≡ due vs S f
+Exact cells vs S = (f : Coin → ℕ) → tally cells f ≡ due vs S f
 
 -- sums over a range of places
 pub sum_none : (g : ℕ → ℕ) (a n : ℕ) → ((q : ℕ) → a ≤ q → g q ≡ 0) → sum_by g (range_with_len a n) ≡ 0
@@ -22,21 +23,6 @@ sum_none g a (suc n) off =
     let z = off a (omega arith) in
     let r = sum_none g (a + 1) n (λ q h. off q (omega arith)) in
     omega (arith, e, z, r)
-
-pub sum_only : (g : ℕ → ℕ) (a n p : ℕ) → a ≤ p → p < a + n → ((q : ℕ) → (q ≢ p) → g q ≡ 0) → sum_by g (range_with_len a n) ≡ g p
-sum_only g a zero p lo hi off = absurd (omega arith)
-sum_only g a (suc n) p lo hi off =
-    let e = sum_by-cons g a (range_with_len (a + 1) n) in
-    elim (cases_eq a p) [
-      | inl i ↦
-          let r = sum_none g (a + 1) n (λ q h. off q (λ j. omega arith)) in
-          let k : g a ≡ g p = ap g i in
-          omega (arith, e, r, k)
-      | inr ne ↦
-          let r = sum_only g (a + 1) n p (omega arith) (omega arith) off in
-          let z = off a ne in
-          omega (arith, e, r, z)
-    ]
 
 pub sum_same : (g k : ℕ → ℕ) (a n : ℕ) → ((q : ℕ) → a ≤ q → q < a + n → g q ≡ k q) → sum_by g (range_with_len a n) ≡ sum_by k (range_with_len a n)
 sum_same g k a zero same = refl
@@ -65,6 +51,13 @@ sum_change g k a (suc n) p lo hi off =
           omega (arith, e, f, r, z)
     ]
 
+-- a sum with one term
+pub sum_only : (g : ℕ → ℕ) (a n p : ℕ) → a ≤ p → p < a + n → ((q : ℕ) → (q ≢ p) → g q ≡ 0) → sum_by g (range_with_len a n) ≡ g p
+sum_only g a n p lo hi off =
+    let c = sum_change (λ _. 0) g a n p lo hi (λ q ne. sym (off q ne)) in
+    let z = sum_none (λ _. 0) a n (λ _ _. refl) in
+    omega (arith, c, z)
+
 -- the outputs of a place are its own
 own_outs : (p q v : ℕ) (s : Stage) (g : Coin → ℕ) → sum_by (own p g) (outs q v s) ≡ cond (p == q) (sum_by g (outs q v s)) 0
 own_outs p q v fresh g = elim (p == q) as (λ b. 0 + cond b (g (funding q v)) 0 ≡ cond b (0 + g (funding q v)) 0) [ true ↦ refl | false ↦ refl ]
@@ -72,7 +65,7 @@ own_outs p q v (holds n h a) g = elim (p == q) as (λ b. 0 + cond b (g (update q
 own_outs p q v (done n a) g =
     elim (p == q) as (λ b. sum_by (λ i. cond b (g (payout q i n (slice_index a i))) 0) (range_with_len 0 8) ≡ cond b (sum_by (λ i. g (payout q i n (slice_index a i))) (range_with_len 0 8)) 0) [ true ↦ refl | false ↦ refl ]
 
--- what one place's outputs weigh
+-- the tally of one place's outputs
 pub due_own : (vs : List ℕ) (S : ℕ → Stage) (p : ℕ) → p < 8 → (g : Coin → ℕ) → due vs S (own p g) ≡ sum_by g (outs p (slice_index vs p) (S p))
 due_own vs S p h g =
     sum_only (λ q. sum_by (own p g) (outs q (slice_index vs q) (S q))) 0 8 p (omega arith) (omega arith)
@@ -91,8 +84,7 @@ shape_of V = stage_by (V updates) (V payouts) (V number) (V since) (map (λ i. V
 
 pub pick : (n : ℕ) (a : List ℕ) (k : ℕ) → k < 8 → slice_index a k ≡ sum_by (λ i. cond (k == i) (slice_index a i) 0) (range_with_len 0 8)
 pick n a k h =
-    sym (sum_only (λ i. cond (k == i) (slice_index a i) 0) 0 8 k (omega arith) (omega arith) (λ q ne. ap (λ b. cond b (slice_index a q) 0) (ne_eqb k q (λ i. ne (sym i))))
-    ∙ ap (λ b. cond b (slice_index a k) 0) (eq-eqb k k refl))
+    sym (sum_only (λ i. cond (k == i) (slice_index a i) 0) 0 8 k (omega arith) (omega arith) (λ q ne. grind (arith, nat_tests)) ∙ grind (arith, nat_tests))
 
 -- the stage of a place from its own outputs
 shape : (p v : ℕ) (s : Stage) → Wide s → stage_by (sum_by updates (outs p v s)) (sum_by payouts (outs p v s)) (sum_by number (outs p v s)) (sum_by since (outs p v s)) (map (λ i. sum_by (amount i) (outs p v s)) (range_with_len 0 8)) ≡ s
@@ -110,8 +102,7 @@ shape p v (done n a) w =
     ap (λ i. done i (map (λ i. sum_by (amount i) (outs p v (done n a))) (range_with_len 0 8))) x ∙ ap (done n) (sym z)
 
 stage_same : {a b c d u v w x : ℕ} {l m : List ℕ} → a ≡ b → c ≡ d → u ≡ v → w ≡ x → l ≡ m → stage_by a c u w l ≡ stage_by b d v x m
-stage_same {a} {b} {c} {d} {u} {v} {w} {x} {l} {m} i j k o q =
-    ap (λ z. stage_by z c u w l) i ∙ ap (λ z. stage_by b z u w l) j ∙ ap (λ z. stage_by b d z w l) k ∙ ap (λ z. stage_by b d v z l) o ∙ ap (stage_by b d v x) q
+stage_same i j k o q = cc
 
 -- a pool that holds the outputs of some stages shows these stages
 pub read_back : (W : (Coin → ℕ) → ℕ) (vs : List ℕ) (S : ℕ → Stage) → ((f : Coin → ℕ) → W f ≡ due vs S f) → (p : ℕ) → p < 8 → Wide (S p) → stage_of W p ≡ S p

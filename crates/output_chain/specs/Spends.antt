@@ -1,31 +1,28 @@
 -- The output that stands for a place, and the pool after it is spent.
-use Rattle.std.specs.Prelude.{◌≡◌, ℕ, ◌+◌, ◌<◌, ◌≤◌, Bool, true, false, cond, ◌&&◌, List, [], ◌∷◌, length, Some, None, sum_by, Option, ◌==◌, ◌≢◌, slice_index, slice_index_or, refl}
+use Rattle.std.specs.Prelude.{◌≡◌, ℕ, ◌+◌, ◌<◌, ◌≤◌, Bool, true, false, cond, if◌then◌else◌, ◌&&◌, List, length, Some, None, sum_by, Option, nat_eq, ◌==◌, ◌≢◌, slice_index, slice_index_or, refl}
 use Rattle.std.proofs.Common.{sym, ap, subst, ◌∙◌, arith}
+use Rattle.std.specs.Bool.{Decides}
+use Rattle.std.specs.Cmp.Lexicographic.{pointwise}
+use Rattle.std.proofs.lemmas.Bool.Decides.{Decides-eqb, nat_tests}
+use Rattle.std.proofs.lemmas.Slice.Eq.{slice_eq-Decides}
 use Rattle.std.proofs.lemmas.List.Sums.{get_or-le-sum_by}
-use Rattle.std.proofs.lemmas.Bool.{eq-eqb, ne_eqb, eqb-true, and_parts, and_from}
-use Rattle.state.specs.declared.quantity.Height.{Height}
-use Rattle.state.specs.declared.quantity.StateNumber.{StateNumber}
+use Rattle.std.proofs.lemmas.Bool.{eq-eqb, ne_eqb, eqb-true}
 use Rattle.ledger.specs.Model.{Stage, fresh, holds, done}
 use Rattle.ledger.specs.Steps.{is_done}
 use Rattle.output_chain.specs.declared.output.Output.{Output}
 use Rattle.output_chain.specs.declared.output.Kind.{Kind}
 use Rattle.output_chain.specs.declared.output.Kind.TheVariants.{Funding, Update, Payout}
-use Rattle.output_chain.specs.Coins.{Coin, funding, update, payout, coin_by, coin_of, each, stage_in, in_cell, weigh, outs, owner, own, spend, updates, payouts}
+use Rattle.output_chain.specs.declared.output.Posted.{Posted}
+use Rattle.output_chain.specs.Coins.{Coin, funding, update, payout, coin_by, coin_of, each, stage_in, in_cell, tally, outs, owner, own, spend, updates, payouts}
 use Rattle.output_chain.specs.Reading.{Exact, due_own, sum_change}
 
 -- equality of outputs
-abbrev same_list : List ℕ → List ℕ → Bool
-same_list [] [] = true
-same_list [] (y ∷ ys) = false
-same_list (x ∷ xs) [] = false
-same_list (x ∷ xs) (y ∷ ys) = x == y && same_list xs ys
-
 abbrev pub same : Coin → Coin → Bool
 same (funding p v) (funding q w) = p == q && v == w
 same (funding p v) (update q w m b t) = false
 same (funding p v) (payout q j m w) = false
 same (update p v n a h) (funding q w) = false
-same (update p v n a h) (update q w m b t) = p == q && (v == w && (n == m && (same_list a b && h == t)))
+same (update p v n a h) (update q w m b t) = p == q && (v == w && (n == m && (pointwise nat_eq a b && h == t)))
 same (update p v n a h) (payout q j m w) = false
 same (payout p i n v) (funding q w) = false
 same (payout p i n v) (update q w m b t) = false
@@ -33,65 +30,37 @@ same (payout p i n v) (payout q j m w) = p == q && (i == j && (n == m && v == w)
 
 -- counts an output
 abbrev pub times : Coin → Coin → ℕ
-times x y = cond (same x y) 1 0
+times x y = if same x y then 1 else 0
 
 false_true : {A : Type 0} → false ≡ true → A
-false_true e = absurd (let z : ◌≡◌ {A = ℕ} 0 1 = cc in omega arith)
+false_true e = absurd cc
 
-same_list_lem : (a b : List ℕ) → same_list a b ≡ true → a ≡ b
-same_list_lem [] [] e = refl
-same_list_lem [] (y ∷ ys) e = false_true e
-same_list_lem (x ∷ xs) [] e = false_true e
-same_list_lem (x ∷ xs) (y ∷ ys) e =
-    let h = and_parts (x == y) (same_list xs ys) e in
-    let i = eqb-true x y h.0 in
-    let j = same_list_lem xs ys h.1 in
-    cc
-
-list_same : (a : List ℕ) → same_list a a ≡ true
-list_same [] = refl
-list_same (x ∷ xs) = and_from (x == x) (same_list xs xs) (eq-eqb x x refl) (list_same xs)
+same_amounts : (a b : List ℕ) → Decides (pointwise nat_eq a b) (a ≡ b)
+same_amounts a b = slice_eq-Decides Decides-eqb a b _ refl
 
 pub same_coin : (x y : Coin) → same x y ≡ true → x ≡ y
-same_coin (funding p v) (funding q w) e =
-    let h = and_parts (p == q) (v == w) e in
-    let i = eqb-true p q h.0 in
-    let j = eqb-true v w h.1 in
-    cc
+same_coin (funding p v) (funding q w) e = grind (arith, nat_tests)
 same_coin (funding p v) (update q w m b t) e = false_true e
 same_coin (funding p v) (payout q j m w) e = false_true e
 same_coin (update p v n a h) (funding q w) e = false_true e
-same_coin (update p v n a h) (update q w m b t) e =
-    let u = and_parts (p == q) (v == w && (n == m && (same_list a b && h == t))) e in
-    let z = and_parts (v == w) (n == m && (same_list a b && h == t)) u.1 in
-    let y = and_parts (n == m) (same_list a b && h == t) z.1 in
-    let x = and_parts (same_list a b) (h == t) y.1 in
-    let i = eqb-true p q u.0 in
-    let j = eqb-true v w z.0 in
-    let k = eqb-true n m y.0 in
-    let l = same_list_lem a b x.0 in
-    let o = eqb-true h t x.1 in
-    cc
+same_coin (update p v n a h) (update q w m b t) e = grind (arith, nat_tests, (same_amounts a b).0)
 same_coin (update p v n a h) (payout q j m w) e = false_true e
 same_coin (payout p i n v) (funding q w) e = false_true e
 same_coin (payout p i n v) (update q w m b t) e = false_true e
-same_coin (payout p i n v) (payout q j m w) e =
-    let u = and_parts (p == q) (i == j && (n == m && v == w)) e in
-    let z = and_parts (i == j) (n == m && v == w) u.1 in
-    let y = and_parts (n == m) (v == w) z.1 in
-    let a = eqb-true p q u.0 in
-    let b = eqb-true i j z.0 in
-    let c = eqb-true n m y.0 in
-    let d = eqb-true v w y.1 in
-    cc
+same_coin (payout p i n v) (payout q j m w) e = grind (arith, nat_tests)
 
 yes : (n : ℕ) → (n == n) ≡ true
 yes n = eq-eqb n n refl
 
 pub coin_same : (x : Coin) → same x x ≡ true
-coin_same (funding p v) = and_from _ _ (yes p) (yes v)
-coin_same (update p v n a h) = and_from _ _ (yes p) (and_from _ _ (yes v) (and_from _ _ (yes n) (and_from _ _ (list_same a) (yes h))))
-coin_same (payout p i n v) = and_from _ _ (yes p) (and_from _ _ (yes i) (and_from _ _ (yes n) (yes v)))
+coin_same (funding p v) = grind (arith, nat_tests)
+coin_same (update p v n a h) = grind (arith, nat_tests, (same_amounts a a).1 refl)
+coin_same (payout p i n v) = grind (arith, nat_tests)
+
+owner_is : (q w : ℕ) (k : Kind) → owner (coin_by q w k) ≡ q
+owner_is q w Funding = refl
+owner_is q w (Update g) = refl
+owner_is q w (Payout i n) = refl
 
 owned : (b : Bool) (n : ℕ) → cond b n 0 ≡ 1 → b ≡ true
 owned true n e = refl
@@ -100,6 +69,20 @@ owned false n e = absurd (omega arith)
 pub seen_one : (b : Bool) → 1 ≤ cond b 1 0 → b ≡ true
 seen_one true e = refl
 seen_one false e = absurd (omega arith)
+
+pub owned_by : (p : ℕ) (o : Output) → own p spend (coin_of o) ≡ 1 → p ≡ o.place
+owned_by p o e = eqb-true p (owner (coin_of o)) (owned (p == owner (coin_of o)) (spend (coin_of o)) e) ∙ owner_is o.place o.value o.kind
+
+spends_none : (b : Bool) (x : Coin) → (cond b (spend x) 0 == 1) ≡ false → cond b (spend x) 0 ≡ 0
+spends_none true (funding p v) e = false_true (sym e)
+spends_none true (update p v n a h) e = false_true (sym e)
+spends_none true (payout p i n v) e = refl
+spends_none false x e = refl
+
+-- a cell that has no output to be spent of a place
+pub not_unspent : (p : ℕ) (c : Option Output) → (in_cell (own p spend) c == 1) ≡ false → in_cell (own p spend) c ≡ 0
+not_unspent p None e = refl
+not_unspent p (Some o) e = spends_none (p == owner (coin_of o)) (coin_of o) e
 
 -- the only output that there is
 one_of : (p : ℕ) (x y : Coin) → own p spend x ≡ 1 → own p (times x) x ≤ 0 + times x y → x ≡ y
@@ -132,24 +115,24 @@ own_one : (b : Bool) (n : ℕ) → cond b n 0 ≡ 1 → n ≡ 1
 own_one true n e = e
 own_one false n e = absurd (omega arith)
 
--- all that the place weighs is that output
+-- all that the place has is that output
 seen_once : (x y : Coin) → 0 + times x y ≡ times x x → x ≡ y
 seen_once x y e = let me : times x x ≡ 1 = ap (λ b. cond b 1 0) (coin_same x) in same_coin x y (seen_one (same x y) (omega (arith, e, me)))
 
 funding_is : (p v q w : ℕ) → funding q w ≡ funding p v → Spent p v fresh q w Funding
 funding_is p v q w e = record { place = cc; value = cc; stage = refl }
 
-update_is : (p v n t : ℕ) (a : List ℕ) (q w : ℕ) (m : StateNumber) (b : List ℕ) (r : Height) → update q w m.value b r.blocks ≡ update p v n a t → Spent p v (holds n t a) q w (Update m b r)
-update_is p v n t a q w m b r e = record { place = cc; value = cc; stage = cc }
+update_is : (p v n t : ℕ) (a : List ℕ) (q w : ℕ) (g : Posted) → update q w g.number.value g.amounts g.since.blocks ≡ update p v n a t → Spent p v (holds n t a) q w (Update g)
+update_is p v n t a q w g e = record { place = cc; value = cc; stage = cc }
 
 spent_is : (p v : ℕ) (s : Stage) (q w : ℕ) (k : Kind) → own p spend (coin_by q w k) ≡ 1 → ((f : Coin → ℕ) → sum_by f (outs p v s) ≡ f (coin_by q w k)) → Spent p v s q w k
 spent_is p v fresh q w Funding one e = funding_is p v q w (seen_once (funding q w) (funding p v) (e (times (funding q w))))
 spent_is p v (holds n t a) q w Funding one e = let z = e updates in absurd (omega (arith, z))
 spent_is p v (done n a) q w Funding one e = let z = e payouts in absurd (omega (arith, z))
-spent_is p v fresh q w (Update m b r) one e = let z = e updates in absurd (omega (arith, z))
-spent_is p v (holds n t a) q w (Update m b r) one e =
-    update_is p v n t a q w m b r (seen_once (update q w m.value b r.blocks) (update p v n a t) (e (times (update q w m.value b r.blocks))))
-spent_is p v (done n a) q w (Update m b r) one e = let z = e updates in absurd (omega (arith, z))
+spent_is p v fresh q w (Update g) one e = let z = e updates in absurd (omega (arith, z))
+spent_is p v (holds n t a) q w (Update g) one e =
+    let x : Coin = update q w g.number.value g.amounts g.since.blocks in update_is p v n t a q w g (seen_once x (update p v n a t) (e (times x)))
+spent_is p v (done n a) q w (Update g) one e = let z = e updates in absurd (omega (arith, z))
 spent_is p v s q w (Payout j m) one e = let z = own_one (p == q) 0 one in absurd (omega (arith, z))
 
 pub spent_here : (cells : List (Option Output)) (vs : List ℕ) (S : ℕ → Stage) (p i : ℕ) (o : Output) → Exact cells vs S → p < 8 → i < length cells → in_cell (own p spend) (slice_index_or cells i None) ≡ 1 → slice_index_or cells i None ≡ Some o → Spent p (slice_index vs p) (S p) o.place o.value o.kind
@@ -167,7 +150,7 @@ full p (Some o) e = refl
 
 spends : (k : Kind) (q w : ℕ) → spend (coin_by q w k) ≡ 1 → is_done (stage_in k) ≡ false
 spends Funding q w e = refl
-spends (Update n a t) q w e = refl
+spends (Update g) q w e = refl
 spends (Payout i n) q w e = absurd (omega arith)
 
 pub not_paid : (p : ℕ) (c : Option Output) (o : Output) → in_cell (own p spend) c ≡ 1 → c ≡ Some o → is_done (stage_in o.kind) ≡ false
@@ -181,7 +164,7 @@ none_done p v (done m b) z = refl
 
 -- another stage at one place
 abbrev pub put : (ℕ → Stage) → ℕ → Stage → ℕ → Stage
-put S p s q = cond (q == p) s (S q)
+put S p s q = if q == p then s else S q
 
 pub put_same : (S : ℕ → Stage) (p : ℕ) (s : Stage) → put S p s p ≡ s
 put_same S p s = ap (λ b. cond b s (S p)) (yes p)
@@ -190,7 +173,7 @@ pub put_other : (S : ℕ → Stage) (p : ℕ) (s : Stage) (q : ℕ) → (q ≢ p
 put_other S p s q ne = ap (λ b. cond b s (S q)) (ne_eqb q p ne)
 
 -- a pool in which the outputs of one place gave way to those of its next stage
-pub moved : (cells next : List (Option Output)) (vs : List ℕ) (S : ℕ → Stage) (p : ℕ) (s : Stage) → Exact cells vs S → p < 8 → ((f : Coin → ℕ) → weigh next f + sum_by f (outs p (slice_index vs p) (S p)) ≡ weigh cells f + sum_by f (outs p (slice_index vs p) s)) → Exact next vs (put S p s)
+pub moved : (cells next : List (Option Output)) (vs : List ℕ) (S : ℕ → Stage) (p : ℕ) (s : Stage) → Exact cells vs S → p < 8 → ((f : Coin → ℕ) → tally next f + sum_by f (outs p (slice_index vs p) (S p)) ≡ tally cells f + sum_by f (outs p (slice_index vs p) s)) → Exact next vs (put S p s)
 moved cells next vs S p s ex h e f =
     let c = sum_change (λ q. sum_by f (outs q (slice_index vs q) (S q))) (λ q. sum_by f (outs q (slice_index vs q) (put S p s q))) 0 8 p (omega arith) (omega arith) (λ q ne. ap (λ x. sum_by f (outs q (slice_index vs q) x)) (sym (put_other S p s q ne))) in
     let i : sum_by f (outs p (slice_index vs p) (put S p s p)) ≡ sum_by f (outs p (slice_index vs p) s) = ap (λ x. sum_by f (outs p (slice_index vs p) x)) (put_same S p s) in

@@ -1,91 +1,51 @@
-ghost use Rattle.std.specs.Prelude.{◌≡◌, ℕ, ◌+◌, ◌<◌, ◌≤◌, length, replicate, if◌then◌else◌, Some, None, sum_by, slice_index_or, slice_set};
+ghost use Rattle.std.specs.Prelude.{◌≡◌, ℕ, ◌+◌, ◌<◌, ◌≤◌, ◌==◌, length, replicate, if◌then◌else◌, is_some, not, None, position, map, sum_by, slice_index, slice_index_or};
+ghost use Rattle.std.specs.List.{range_with_len};
 ghost use Rattle.ledger.specs.Model.{fresh, done};
-ghost use Rattle.output_chain.specs.Coins.{Coin, payout, weigh, in_cell, own, spend, each, coin_of, outs, due};
-ghost use Rattle.output_chain.specs.Pools.{Found, PaymentOf, Paid};
+ghost use Rattle.output_chain.specs.Coins.{Coin, funding, payout, tally, in_cell, own, spend, each, coin_of, outs, due};
+ghost use Rattle.output_chain.specs.Pools.{Paid};
 
-use crate::output::{Kind, Output, Payment};
+use crate::output::{Kind, Output, Payment, Posted, Unspent};
 use state::quantity::StateNumber;
-
-// Whether a cell holds the funding or update output of a place.
-fn spendable(cell: &Option<Output>, place: usize) -> bool
-    ensures { in_cell (own place spend) cell.now ≡ (if result then 1 else 0) }
-{
-    match cell {
-        None => false,
-        Some(output) => match output.kind {
-            Kind::Funding => output.place == place,
-            Kind::Update { .. } => output.place == place,
-            Kind::Payout { .. } => false,
-        },
-    }
-}
+use std::array;
 
 // The cell of the place's funding or update output.
 pub(crate) fn find(pool: &[Option<Output>], place: usize) -> Option<usize>
-    ensures { Found result pool.now place }
+    ensures { result ≡ position (λ cell. in_cell (own place spend) cell == 1) pool.now }
 {
-    for i in 0..pool.len() {
-        if spendable(&pool[i], place) {
-            return Some(i);
-        }
-    }
-    None
-}
-
-// The output in a cell that is not free.
-pub(crate) fn read(pool: &[Option<Output>], at: usize) -> Output
-    requires there { at < length pool.now }
-    requires full { in_cell each (slice_index_or pool.now at None) ≡ 1 }
-    ensures { slice_index_or pool.now at None ≡ Some result }
-{
-    let cell = &pool[at];
-    match cell {
-        None => unreachable(),
-        Some(output) => *output,
-    }
+    pool.iter().position(|cell| cell.is_some_and(|output| output.is_unspent_of(place)))
 }
 
 // How many outputs there are.
 pub(crate) fn count(pool: &[Option<Output>]) -> usize
-    ensures { result ≡ weigh pool.now each }
+    ensures { result ≡ tally pool.now each }
 {
-    let mut count = 0;
-    for i in 0..pool.len() {
-        if pool[i].is_some() {
-            count += 1;
-        }
-    }
-    count
-}
-
-// Makes an output in a cell; one that was there is spent.
-pub(crate) fn replace(pool: &mut [Option<Output>], at: usize, output: Output)
-    requires { at < length pool.old }
-    ensures { pool.new ≡ slice_set pool.old at (Some output) }
-{
-    pool[at] = Some(output);
+    pool.iter().filter(|cell| cell.is_some()).count()
 }
 
 // A free cell.
-fn free(pool: &[Option<Output>]) -> usize
-    requires { weigh pool.now each < length pool.now }
-    ensures { (result < length pool.now) × (slice_index_or pool.now result None ≡ None) }
+fn free(pool: &[Option<Output>]) -> Option<usize>
+    ensures { result ≡ position (λ cell. not (is_some cell)) pool.now }
 {
-    for i in 0..pool.len() {
-        if pool[i].is_none() {
-            return i;
-        }
-    }
-    0
+    pool.iter().position(|cell| cell.is_none())
 }
 
 // Makes an output in a free cell.
 fn make(pool: &mut [Option<Output>], output: Output)
-    requires { weigh pool.old each < length pool.old }
-    ensures { (f : Coin → ℕ) → weigh pool.new f ≡ weigh pool.old f + f (coin_of output) }
+    requires { tally pool.old each < length pool.old }
+    ensures { (f : Coin → ℕ) → tally pool.new f ≡ tally pool.old f + f (coin_of output) }
 {
-    let at = free(pool);
-    replace(pool, at, output);
+    let cell = free(pool).unwrap();
+    pool[cell] = Some(output);
+}
+
+// Makes outputs in free cells.
+pub(crate) fn make_all(pool: &mut [Option<Output>], outputs: &[Output])
+    requires { tally pool.old each + length outputs.now ≤ length pool.old }
+    ensures { (f : Coin → ℕ) → tally pool.new f ≡ tally pool.old f + sum_by f (map coin_of outputs.now) }
+{
+    for output in outputs {
+        make(pool, *output);
+    }
 }
 
 // The payout with an index.
@@ -99,72 +59,41 @@ fn payout_at(place: usize, index: usize, number: StateNumber, value: u64) -> Out
     }
 }
 
-// Spends the output in a cell and makes eight payouts.
-pub(crate) fn pay(
-    pool: &mut [Option<Output>],
-    at: usize,
-    place: usize,
-    number: StateNumber,
-    amounts: &[u64; 8],
-)
-    requires { (at < length pool.old) × ((in_cell each (slice_index_or pool.old at None) ≡ 1) × (weigh pool.old each + 7 ≤ length pool.old)) }
-    ensures { (f : Coin → ℕ) → weigh pool.new f + in_cell f (slice_index_or pool.old at None) ≡ weigh pool.old f + sum_by f (outs place 0 (done number.value amounts.now)) }
+// The eight payouts of a settled state.
+fn payouts(place: usize, number: StateNumber, amounts: &[u64; 8]) -> [Output; 8]
+    ensures { map coin_of result ≡ outs place 0 (done number.value amounts.now) }
 {
-    pool[at] = None;
-    for index in 0..8 {
-        make(pool, payout_at(place, index, number, amounts[index]));
-    }
+    array::from_fn(|index| payout_at(place, index, number, amounts[index]))
 }
 
-// Makes the eight funding outputs in a pool that is free.
-pub(crate) fn fund(pool: &mut [Option<Output>], fundings: &[u64; 8])
-    requires { (8 ≤ length pool.old) × (pool.old ≡ replicate (length pool.old) None) }
-    ensures { (f : Coin → ℕ) → weigh pool.new f ≡ due fundings.now (λ _. fresh) f }
+// The funding outputs of eight roots.
+pub(crate) fn funding_outputs(fundings: &[u64; 8]) -> [Output; 8]
+    ensures { map coin_of result ≡ map (λ place. funding place (slice_index fundings.now place)) (range_with_len 0 8) }
 {
-    for place in 0..8 {
-        make(
-            pool,
-            Output {
-                place,
-                value: fundings[place],
-                kind: Kind::Funding,
-            },
-        );
-    }
+    array::from_fn(|place| Output {
+        place,
+        value: fundings[place],
+        kind: Kind::Funding,
+    })
 }
 
-// What a cell pays to a party of a place.
-fn payment(cell: &Option<Output>, place: usize, index: usize) -> Option<Payment>
-    ensures { PaymentOf result cell.now place index }
+// Spends an output and makes the eight payouts of the state that it shows.
+pub(crate) fn pay(pool: &mut [Option<Output>], spent: Unspent, posted: &Posted)
+    requires there { spent.cell < length pool.old }
+    requires full { in_cell each (slice_index_or pool.old spent.cell None) ≡ 1 }
+    requires room { tally pool.old each + 7 ≤ length pool.old }
+    ensures { (f : Coin → ℕ) → tally pool.new f + in_cell f (slice_index_or pool.old spent.cell None) ≡ tally pool.old f + sum_by f (outs spent.output.place 0 (done posted.now.number.value posted.now.amounts)) }
 {
-    match cell {
-        None => None,
-        Some(output) => match output.kind {
-            Kind::Funding => None,
-            Kind::Update { .. } => None,
-            Kind::Payout { index: at, number } => {
-                if output.place == place && at == index {
-                    Some(Payment {
-                        number,
-                        value: output.value,
-                    })
-                } else {
-                    None
-                }
-            }
-        },
-    }
+    pool[spent.cell] = None;
+    make_all(
+        pool,
+        &payouts(spent.output.place, posted.number, &posted.amounts),
+    );
 }
 
 // What the pool pays to a party of a place.
 pub(crate) fn paid(pool: &[Option<Output>], place: usize, index: usize) -> Option<Payment>
     ensures { Paid result pool.now place index }
 {
-    for i in 0..pool.len() {
-        let found = payment(&pool[i], place, index);
-        if found.is_some() {
-            return found;
-        }
-    }
-    None
+    pool.iter().find_map(|cell| cell.and_then(|output| output.payment(place, index)))
 }

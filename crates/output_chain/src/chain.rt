@@ -1,22 +1,20 @@
-ghost use Rattle.std.specs.Prelude.{◌≡◌, ℕ, ◌<◌, ◌≤◌, true, length, slice_index};
-ghost use Rattle.output_chain.specs.Coins.{weigh, stage_of};
-ghost use Rattle.output_chain.specs.Models.{backs, model_by, PoolIs};
-ghost use Rattle.state.specs.Limits.{max_total};
+ghost use Rattle.std.specs.Prelude.{◌≡◌, ℕ, ◌<◌, true, length, slice_index};
+ghost use Rattle.output_chain.specs.Coins.{tally, stage_of};
+ghost use Rattle.output_chain.specs.Models.{backs, fundings_of, model_by, PoolIs};
 
 use crate::output::Output;
-use state::quantity::{Delay, Height};
+use ledger::setup::Terms;
+use state::quantity::Height;
 
-// A pool of unspent outputs, beside the figures of the set-up and the height. Where a place stands is read off its outputs.
+// A pool of unspent outputs, beside the terms of the roots and the height. Where a root stands is read off its outputs.
 #[derive(Drop)]
 pub struct OutputChain {
     pub(crate) height: Height,
-    pub(crate) delays: [Delay; 8],
-    pub(crate) fundings: [u64; 8],
+    pub(crate) roots: [Terms; 8],
     pub(crate) pool: [Option<Output>; 64],
-    ghost waits: { length delays ≡ 8 },
-    ghost values: { length fundings ≡ 8 },
+    ghost eight: { length roots ≡ 8 },
     ghost room: { length pool ≡ 64 },
-    ghost capped: { (p : ℕ) → slice_index fundings p ≤ max_total },
-    ghost pooled: { PoolIs pool (model_by height.blocks delays fundings pool) },
-    ghost backed: { (p : ℕ) → p < 8 → backs (slice_index fundings p) (stage_of (weigh pool) p) height.blocks ≡ true },
+    // the pool holds exactly the outputs that the stages stand for
+    ghost pooled: { PoolIs pool (model_by height.blocks roots pool) },
+    ghost backed: { (p : ℕ) → p < 8 → backs (slice_index (fundings_of roots) p) (stage_of (tally pool) p) height.blocks ≡ true },
 }

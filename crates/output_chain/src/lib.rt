@@ -4,6 +4,7 @@
 mod cells;
 pub mod chain;
 pub mod host;
+mod index;
 pub mod look;
 pub mod output;
 mod setting;

@@ -1,12 +1,13 @@
 ghost use Rattle.std.specs.Prelude.{◌≡◌, ◌<◌, ◌≤◌, None, sum_by, slice_index_or};
 ghost use Rattle.output_chain.specs.Chains.{model_of, Holds};
-ghost use Rattle.output_chain.specs.Coins.{weigh, each};
+ghost use Rattle.output_chain.specs.Coins.{tally, each};
 ghost use Rattle.output_chain.specs.Models.{outputs_of};
 ghost use Rattle.output_chain.specs.Laws.{chain_lawful};
 ghost use Rattle.ledger.proofs.Keeping.{laws_hold};
 
 use crate::cells::count;
 use crate::chain::OutputChain;
+use crate::index::RootIndex;
 use crate::output::Output;
 use ledger::host::Ledger;
 use ledger::view::View;
@@ -25,14 +26,11 @@ impl Ledger for OutputChain {
     }
 
     fn count(&self) -> usize {
-        8
+        self.roots.len()
     }
 
     fn view(&self, place: usize) -> Result<View, Refusal> {
-        if place >= self.count() {
-            return Err(Refusal::NoSuchPlace);
-        }
-        Ok(self.shown_at(place))
+        Ok(self.shown_at(RootIndex::at(place)?))
     }
 }
 
@@ -43,17 +41,13 @@ impl OutputChain {
         ensures past { 64 ≤ cell → result ≡ None }
         ensures pool { Holds self.now }
     {
-        if cell >= 64 {
-            return None;
-        }
-        self.pool[cell]
+        *self.pool.get(cell)?
     }
 
     // How many unspent outputs there are.
     pub fn outputs(&self) -> usize
-        ensures count { result ≡ weigh self.now.pool each }
+        ensures count { result ≡ tally self.now.pool each }
         ensures model { result ≡ sum_by each (outputs_of (model_of self.now)) }
-        ensures pool { Holds self.now }
     {
         count(&self.pool)
     }

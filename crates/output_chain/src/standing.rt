@@ -1,84 +1,74 @@
-ghost use Rattle.std.specs.Prelude.{◌≡◌, ◌<◌, false, Some};
-ghost use Rattle.ledger.specs.Model.{place_at, value_of, seen, status_by, shown_amounts, PlaceShows};
+ghost use Rattle.std.specs.Prelude.{◌≡◌, ◌<◌, false};
+ghost use Rattle.ledger.specs.Model.{place_at, value_of, PlaceShows};
 ghost use Rattle.ledger.specs.Steps.{is_done};
-ghost use Rattle.output_chain.specs.Chains.{model_of};
-ghost use Rattle.output_chain.specs.Coins.{weigh, own, spend, number, amount, stage_in, stage_of};
+ghost use Rattle.output_chain.specs.Chains.{model_of, Stands};
+ghost use Rattle.output_chain.specs.Coins.{tally, own, spend, number, amount, stage_in, stage_of};
 
-use crate::cells::{find, paid, read};
+use crate::cells::paid;
 use crate::chain::OutputChain;
+use crate::index::RootIndex;
 use crate::output::{Kind, Output, Payment};
 use ledger::view::{Standing, View};
+use std::array;
 
-// Where a place stands that has this output to be spent.
+// Where a root stands that has this output to be spent.
 fn standing_of(unspent: &Output) -> (Standing, [u64; 8])
     requires { is_done (stage_in unspent.now.kind) ≡ false }
-    ensures status { seen result.0 result.1 ≡ status_by (Some 0) (stage_in unspent.now.kind) }
-    ensures amounts { result.1 ≡ shown_amounts (status_by (Some 0) (stage_in unspent.now.kind)) }
+    ensures { Stands result (stage_in unspent.now.kind) }
 {
     match unspent.kind {
         Kind::Funding => (Standing::Open, [0; 8]),
-        Kind::Update {
-            number,
-            amounts,
-            since,
-        } => (Standing::Posted { number, since }, amounts),
+        Kind::Update(posted) => {
+            let number = posted.number;
+            let since = posted.since;
+            let amounts = posted.amounts;
+            (Standing::Posted { number, since }, amounts)
+        }
         Kind::Payout { .. } => unreachable(),
     }
 }
 
 impl OutputChain {
-    // The payout with an index, of a place that is settled.
-    fn payment(&self, place: usize, index: usize) -> Payment
-        requires { (place < 8) × ((index < 8) × (weigh self.now.pool (own place spend) ≡ 0)) }
-        ensures number { result.number.value ≡ weigh self.now.pool (own place number) }
-        ensures value { result.value ≡ weigh self.now.pool (own place (amount index)) }
+    // The payout with an index, of a root that is settled.
+    fn payment(&self, root: RootIndex, index: usize) -> Payment
+        requires index { index < 8 }
+        requires settled { tally self.now.pool (own root.place spend) ≡ 0 }
+        ensures number { result.number.value ≡ tally self.now.pool (own root.place number) }
+        ensures value { result.value ≡ tally self.now.pool (own root.place (amount index)) }
     {
-        match paid(&self.pool, place, index) {
-            Some(payment) => payment,
-            None => unreachable(),
-        }
+        paid(&self.pool, root.place, index).unwrap()
     }
 
-    // Where a place stands that has nothing to be spent.
-    fn settled(&self, place: usize) -> (Standing, [u64; 8])
-        requires { (place < 8) × (weigh self.now.pool (own place spend) ≡ 0) }
-        ensures status { seen result.0 result.1 ≡ status_by (Some 0) (stage_of (weigh self.now.pool) place) }
-        ensures amounts { result.1 ≡ shown_amounts (status_by (Some 0) (stage_of (weigh self.now.pool) place)) }
+    // Where a root stands that has nothing to be spent.
+    fn settled(&self, root: RootIndex) -> (Standing, [u64; 8])
+        requires { tally self.now.pool (own root.place spend) ≡ 0 }
+        ensures { Stands result (stage_of (tally self.now.pool) root.place) }
     {
-        let mut amounts = [0; 8];
-        let first = self.payment(place, 0);
-        for index in 0..8 {
-            let part = self.payment(place, index);
-            amounts[index] = part.value;
-        }
-        let number = first.number;
+        let number = self.payment(root, 0).number;
+        let amounts = array::from_fn(|index| self.payment(root, index).value);
         (Standing::Settled { number }, amounts)
     }
 
-    // Where a place stands, by its outputs.
-    fn standing(&self, place: usize) -> (Standing, [u64; 8])
-        requires { place < 8 }
-        ensures status { seen result.0 result.1 ≡ status_by (Some 0) (stage_of (weigh self.now.pool) place) }
-        ensures amounts { result.1 ≡ shown_amounts (status_by (Some 0) (stage_of (weigh self.now.pool) place)) }
+    // Where a root stands, by its outputs.
+    fn standing(&self, root: RootIndex) -> (Standing, [u64; 8])
+        ensures { Stands result (stage_of (tally self.now.pool) root.place) }
     {
-        let Some(at) = find(&self.pool, place) else {
-            return self.settled(place);
-        };
-        standing_of(&read(&self.pool, at))
+        match self.spendable(root) {
+            Some(unspent) => standing_of(&unspent.output),
+            None => self.settled(root),
+        }
     }
 
-    // What a place shows.
-    pub(crate) fn shown_at(&self, place: usize) -> View
-        requires { place < 8 }
-        ensures { PlaceShows result (value_of (model_of self.now) place) (place_at (model_of self.now) place) }
+    // What a root shows.
+    pub(crate) fn shown_at(&self, root: RootIndex) -> View
+        ensures { PlaceShows result (value_of (model_of self.now) root.place) (place_at (model_of self.now) root.place) }
     {
-        let (standing, amounts) = self.standing(place);
-        let delay = self.delays[place];
-        let funding = self.fundings[place];
+        let (standing, amounts) = self.standing(root);
+        let terms = self.roots[root.place];
         View {
             parent: None,
-            delay,
-            funding,
+            delay: terms.delay,
+            funding: terms.funding,
             standing,
             amounts,
         }

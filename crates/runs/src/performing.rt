@@ -1,12 +1,10 @@
 ghost use Rattle.std.specs.Prelude.{◌≡◌, []};
 ghost use Rattle.eltoo.specs.Lists.{calls_of, Performs, Performed, WholeRun, WholeFreshRun};
-ghost use Rattle.eltoo.specs.Safety.{GoesOn};
 ghost use Rattle.eltoo.specs.Stations.{set_up};
-ghost use Rattle.eltoo.specs.Steps.{Step};
 ghost use Rattle.seal.specs.Registers.{RowGives, row_seals, register_meaning};
-ghost use Rattle.station.specs.Meaning.{meant, done_by, sealed_by};
+ghost use Rattle.station.specs.Meaning.{meant, Makes};
 
-use eltoo::answer::Answer;
+use eltoo::answer::Outcome;
 use eltoo::call::Call;
 use eltoo::turn::Turn;
 use ledger::host::{Host, Ledger};
@@ -15,36 +13,17 @@ use seal::scheme::Scheme;
 use state::refusal::Refusal;
 use station::station::Station;
 
-fn done(res: Result<(), Refusal>) -> Answer
-    ensures { result ≡ done_by res }
-{
-    match res {
-        Ok(()) => Answer::Done,
-        Err(refusal) => Answer::Refused(refusal),
-    }
-}
-
-fn sealed(res: Result<u64, Refusal>) -> Answer
-    ensures { result ≡ sealed_by res }
-{
-    match res {
-        Ok(seal) => Answer::Sealed(seal),
-        Err(refusal) => Answer::Refused(refusal),
-    }
-}
-
 // One of the six calls of a station.
-pub fn call<B: Host, S: Scheme>(station: &mut Station<B, S>, call: Call) -> Answer
-    ensures step { Step S.Scheme.gives (meant B.Ledger.model S.Scheme.seals station.old) call result (meant B.Ledger.model S.Scheme.seals station.new) }
-    ensures goes { GoesOn S.Scheme.gives (meant B.Ledger.model S.Scheme.seals station.old) call result (meant B.Ledger.model S.Scheme.seals station.new) }
+pub fn call<B: Host, S: Scheme>(station: &mut Station<B, S>, call: Call) -> Result<Outcome, Refusal>
+    ensures { Makes B.Ledger.model S.Scheme.seals S.Scheme.gives station.old call result station.new }
 {
     match call {
-        Call::Agree(state) => sealed(station.agree(&state)),
-        Call::Claim(place) => done(station.claim(place)),
-        Call::Post(state, seal) => done(station.post(&state, seal)),
-        Call::Settle(place) => done(station.settle(place)),
-        Call::Advance(blocks) => done(station.advance(blocks)),
-        Call::Round => Answer::Counted(station.round()),
+        Call::Agree(state) => station.agree(&state).map(Outcome::Sealed),
+        Call::Claim(place) => station.claim(place).map(|()| Outcome::Done),
+        Call::Post(state, seal) => station.post(&state, seal).map(|()| Outcome::Done),
+        Call::Settle(place) => station.settle(place).map(|()| Outcome::Done),
+        Call::Advance(blocks) => station.advance(blocks).map(|()| Outcome::Done),
+        Call::Round => Ok(Outcome::Counted(station.round())),
     }
 }
 
@@ -53,10 +32,8 @@ pub fn perform<B: Host, S: Scheme>(station: &mut Station<B, S>, turns: &mut [Tur
     ensures calls { calls_of turns.new ≡ calls_of turns.old }
     ensures performed { Performed S.Scheme.gives (meant B.Ledger.model S.Scheme.seals station.old) turns.new (meant B.Ledger.model S.Scheme.seals station.new) }
 {
-    for i in 0..turns.len() {
-        let made = turns[i].call;
-        let answer = call(station, made);
-        turns[i] = Turn { call: made, answer };
+    for turn in turns.iter_mut() {
+        turn.answer = Some(call(station, turn.call));
     }
 }
 

@@ -1,5 +1,5 @@
 -- Runs over a register, played from a list of calls that are all accepted.
-use Rattle.std.proofs.Common.{◌≡◌, ℕ, Bool, true, ◌&&◌, ltb, leb, List, [], ◌∷◌, ◌++◌, length, set, Some, Option, refl, arith}
+use Rattle.std.proofs.Common.{◌≡◌, ℕ, Bool, true, ◌&&◌, ltb, leb, List, [], ◌∷◌, ◌++◌, length, set, Some, Option, Ok, refl, arith}
 use Rattle.std.proofs.lemmas.Bool.{ltb-true, leb-true}
 use Rattle.std.proofs.lemmas.Bool.Decides.{nat_tests}
 use Rattle.state.specs.declared.state.State.{State}
@@ -9,8 +9,8 @@ use Rattle.ledger.specs.Model.{Model}
 use Rattle.ledger.specs.Steps.{post_next, settle_checks, settle_next, advance_checks, advance_next}
 use Rattle.seal.specs.Registers.{row_seals, RowGives}
 use Rattle.seal.proofs.Filling.{row_signs}
-use Rattle.eltoo.specs.declared.answer.Answer.{Answer}
-use Rattle.eltoo.specs.declared.answer.Answer.TheVariants.{Done, Sealed, Counted}
+use Rattle.eltoo.specs.declared.answer.Outcome.{Outcome}
+use Rattle.eltoo.specs.declared.answer.Outcome.TheVariants.{Done, Sealed, Counted}
 use Rattle.eltoo.specs.declared.call.Call.{Call}
 use Rattle.eltoo.specs.declared.call.Call.TheVariants.{Agree, Claim, Post, Settle, Advance, Round}
 use Rattle.eltoo.specs.Lineage.{lineage}
@@ -41,13 +41,13 @@ next h (Settle p) = at h (settle_next h.ledger p)
 next h (Advance k) = at h (advance_next h.ledger k)
 next h Round = at h (whole_round (station h)).ledger
 
-abbrev pub answer_of : Here → Call → Answer
-answer_of h (Agree x) = Sealed (length h.rows)
-answer_of h (Claim p) = Done
-answer_of h (Post x k) = Done
-answer_of h (Settle p) = Done
-answer_of h (Advance k) = Done
-answer_of h Round = Counted (whole_round (station h)).counts
+abbrev pub outcome_of : Here → Call → Outcome
+outcome_of h (Agree x) = Sealed (length h.rows)
+outcome_of h (Claim p) = Done
+outcome_of h (Post x k) = Done
+outcome_of h (Settle p) = Done
+outcome_of h (Advance k) = Done
+outcome_of h Round = Counted (whole_round (station h)).counts
 
 abbrev pub taken : Here → Call → Bool
 taken h (Agree x) = ltb (length h.rows) 256 && is_accepted (first (agree_checks (station h) x))
@@ -57,7 +57,7 @@ taken h (Settle p) = is_accepted (first (settle_checks h.ledger p))
 taken h (Advance k) = is_accepted (first (advance_checks h.ledger k))
 taken h Round = true
 
-pub step : (h : Here) (c : Call) → taken h c ≡ true → Step RowGives (station h) c (answer_of h c) (station (next h c))
+pub step : (h : Here) (c : Call) → taken h c ≡ true → Step RowGives (station h) c (Ok (outcome_of h c)) (station (next h c))
 step h (Agree x) e =
     let room : ltb (length h.rows) 256 ≡ true = grind (arith, nat_tests) in
     let fits : is_accepted (first (agree_checks (station h) x)) ≡ true = grind (arith, nat_tests) in
@@ -76,7 +76,7 @@ reached h (c ∷ cs) = next (reached h cs) c
 
 abbrev pub entries_of : Here → List Call → List Entry
 entries_of h [] = []
-entries_of h (c ∷ cs) = record { before = station (reached h cs); call = c; answer = answer_of (reached h cs) c; after = station (next (reached h cs) c) } ∷ entries_of h cs
+entries_of h (c ∷ cs) = record { before = station (reached h cs); call = c; answer = Ok (outcome_of (reached h cs) c); after = station (next (reached h cs) c) } ∷ entries_of h cs
 
 abbrev pub all_taken : Here → List Call → Bool
 all_taken h [] = true

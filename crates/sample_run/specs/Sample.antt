@@ -1,4 +1,4 @@
-use Rattle.std.specs.Prelude.{◌≡◌, ℕ, ◌+◌, ◌<◌, true, List, [], ◌∷◌, map, reverse, replicate, Some, refl}
+use Rattle.std.specs.Prelude.{◌≡◌, ℕ, ◌+◌, ◌<◌, true, List, [], ◌∷◌, map, reverse, replicate, Some, Ok, refl}
 use Rattle.std.proofs.Common.{lit≤}
 use Rattle.state.specs.declared.state.State.{State}
 use Rattle.ledger.specs.declared.setup.SetUp.{SetUp}
@@ -6,8 +6,8 @@ use Rattle.ledger.specs.Model.{Model, settled, status, is_settled}
 use Rattle.ledger.specs.SetUps.{started}
 use Rattle.factory.specs.Extending.{founded}
 use Rattle.seal.specs.Registers.{row_seals, RowGives}
-use Rattle.eltoo.specs.declared.answer.Answer.{Answer}
-use Rattle.eltoo.specs.declared.answer.Answer.TheVariants.{Done, Sealed, Counted}
+use Rattle.eltoo.specs.declared.answer.Outcome.{Outcome}
+use Rattle.eltoo.specs.declared.answer.Outcome.TheVariants.{Done, Sealed, Counted}
 use Rattle.eltoo.specs.declared.call.Call.{Call}
 use Rattle.eltoo.specs.declared.call.Call.TheVariants.{Agree, Claim, Post, Advance, Round}
 use Rattle.eltoo.specs.declared.turn.Turn.{Turn}
@@ -37,9 +37,9 @@ sample_set_up = record { fundings = 1500 ∷ 0 ∷ 0 ∷ 0 ∷ 0 ∷ 0 ∷ 0 ∷
 abbrev pub sample_ledger : Model
 sample_ledger = founded (started sample_set_up) 0 (replicate 8 4)
 
--- the calls, with what each answers
-abbrev turn : Call → Answer → Turn
-turn c a = record { call = c; answer = a }
+-- the calls, all of them accepted, with the outcome of each
+abbrev turn : Call → Outcome → Turn
+turn c o = record { call = c; answer = Some (Ok o) }
 
 abbrev counted : ℕ → ℕ → Turn
 counted posts settlements = turn Round (Counted (record { posts = posts; settlements = settlements; refusals = 0 }))

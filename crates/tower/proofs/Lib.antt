@@ -1,3 +1,3 @@
-mod Seeing
-mod Touring
-mod Walking
+pub mod Touring
+pub mod Walking
+pub mod Watching

@@ -1,47 +1,46 @@
 -- Steps of the walk from a place up to its root.
-use Rattle.std.proofs.Common.{◌≡◌, ℕ, ◌<◌, ◌≤◌, Bool, true, ◌⊎◌, List, set, Some, None, Option, sym, refl, ap, ◌∙◌, inl, inr}
+use Rattle.std.proofs.Common.{◌≡◌, ℕ, suc, ◌<◌, ◌≤◌, Bool, true, ◌⊎◌, List, [], ◌∷◌, set, Some, None, Option, option_map, sym, refl, ap, ◌∙◌, inl, inr, arith}
 use Rattle.std.proofs.lemmas.List.{get_or_past}
 use Rattle.std.proofs.lemmas.Bool.{cases_lt}
 use Rattle.ledger.specs.declared.view.Parent.{Parent}
-use Rattle.ledger.specs.Laws.{Laid, child}
+use Rattle.ledger.specs.Laws.{Laid}
 use Rattle.ledger.specs.Model.{Model, Place, nowhere, place_at}
-use Rattle.ledger.proofs.Changing.{some_same, none_some}
+use Rattle.ledger.proofs.Changing.{none_some}
 use Rattle.eltoo.specs.Lineage.{lineage}
 use Rattle.eltoo.specs.Stations.{count, mark_each}
 use Rattle.eltoo.proofs.Moves.{parent_below}
 use Rattle.eltoo.proofs.Lineages.{lineage_root, lineage_child}
-use Rattle.tower.specs.Tours.{parent_place}
 
--- what is no place has no parent
-pub no_parent : (m : Model) (p : ℕ) → count m ≤ p → None ≡ parent_place (place_at m p).parent
-no_parent m p le = sym (ap (λ (y : Place). parent_place y.parent) (get_or_past m.places p nowhere le))
+-- what is left of the walk, from the next place on
+abbrev pub onward : Model → Option ℕ → List ℕ
+onward m None = []
+onward m (Some p) = lineage m p
 
-module _ (m : Model) (laid : Laid m) (p : ℕ) where
-  -- a parent makes a child
-  pub record ChildOf (q : ℕ) : Type 0 where
-    pub index : ℕ
-    pub there : p < count m
-    pub is : (place_at m p).parent ≡ child q index
+abbrev pub steps_left : Option ℕ → ℕ
+steps_left None = 0
+steps_left (Some p) = suc p
 
-  child_of_lem : (q : ℕ) → Some q ≡ parent_place (place_at m p).parent → ChildOf q
-  child_of_lem q e = go (cases_lt p (count m)) (place_at m p).parent refl
-    where
-      go : (p < count m) ⊎ (count m ≤ p) → (o : Option Parent) → (place_at m p).parent ≡ o → ChildOf q
-      go (inr past) o i = absurd (none_some (no_parent m p past ∙ sym e))
-      go (inl lt) None i = absurd (none_some (sym (e ∙ ap parent_place i)))
-      go (inl lt) (Some u) i = record { index = u.index; there = lt; is = i ∙ ap (λ n. child n u.index) (sym (some_same (e ∙ ap parent_place i))) }
+abbrev pub above : Model → ℕ → Option ℕ
+above m p = option_map (λ (u : Parent). u.place) (place_at m p).parent
 
-  pub parent_lower : (q : ℕ) → Some q ≡ parent_place (place_at m p).parent → q < p
-  parent_lower q e = let c = child_of_lem q e in (parent_below m laid p q c.index c.there c.is).0
+-- the walk goes on at the parent, and ends at the root
+pub record Climbs (m : Model) (p : ℕ) : Type 0 where
+  pub lower : steps_left (above m p) < suc p
+  pub rest : lineage m p ≡ p ∷ onward m (above m p)
 
-  -- the walk goes on at the parent
-  pub mark_on : (q : ℕ) (ks : List Bool) → Some q ≡ parent_place (place_at m p).parent → mark_each (lineage m p) ks ≡ mark_each (lineage m q) (set ks p true)
-  mark_on q ks e = let c = child_of_lem q e in ap (λ (ls : List ℕ). mark_each ls ks) (lineage_child m laid p q c.index c.there c.is)
+pub climbs : (m : Model) → Laid m → (p : ℕ) → Climbs m p
+climbs m laid p = go (cases_lt p (count m)) (place_at m p).parent refl
+  where
+    by : (o : Option Parent) → (place_at m p).parent ≡ o → above m p ≡ option_map (λ (u : Parent). u.place) o
+    by o e = ap (option_map (λ (u : Parent). u.place)) e
 
-  -- and ends at the root
-  pub mark_end : (ks : List Bool) → None ≡ parent_place (place_at m p).parent → mark_each (lineage m p) ks ≡ set ks p true
-  mark_end ks e = go (place_at m p).parent refl
-    where
-      go : (o : Option Parent) → (place_at m p).parent ≡ o → mark_each (lineage m p) ks ≡ set ks p true
-      go None i = ap (λ (ls : List ℕ). mark_each ls ks) (lineage_root m laid p i)
-      go (Some u) i = absurd (none_some (e ∙ ap parent_place i))
+    go : (p < count m) ⊎ (count m ≤ p) → (o : Option Parent) → (place_at m p).parent ≡ o → Climbs m p
+    go lt None e = record { lower = omega (arith, ap steps_left (by None e)); rest = lineage_root m laid p e ∙ sym (ap (λ o. p ∷ onward m o) (by None e)) }
+    go (inl lt) (Some u) e =
+        let low = (parent_below m laid p u.place u.index lt e).0 in
+        record { lower = omega (arith, low, ap steps_left (by (Some u) e)); rest = lineage_child m laid p u.place u.index lt e ∙ sym (ap (λ o. p ∷ onward m o) (by (Some u) e)) }
+    go (inr past) (Some u) e = absurd (none_some (sym (ap (λ (y : Place). y.parent) (get_or_past m.places p nowhere past)) ∙ e))
+
+-- a mark more
+pub mark_on : (m : Model) → Laid m → (p : ℕ) (q : Option ℕ) (ks ls : List Bool) → q ≡ above m p → ls ≡ set ks p true → mark_each (onward m q) ls ≡ mark_each (lineage m p) ks
+mark_on m laid p q ks ls e f = ap (λ o. mark_each (onward m o) ls) e ∙ ap (mark_each (onward m (above m p))) f ∙ sym (ap (λ (v : List ℕ). mark_each v ks) (climbs m laid p).rest)

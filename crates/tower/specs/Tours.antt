@@ -1,28 +1,20 @@
-use Rattle.std.specs.Prelude.{◌≡◌, ℕ, ◌*◌, ◌≤◌, Bool, List, Some, None, Option}
-use Rattle.state.specs.declared.update.Update.{Update}
-use Rattle.ledger.specs.declared.view.Parent.{Parent}
+use Rattle.std.specs.Prelude.{Some, None, Ok, Err, Option, Result}
+use Rattle.state.specs.declared.refusal.Refusal.{Refusal}
 use Rattle.ledger.specs.Model.{Model}
 use Rattle.eltoo.specs.declared.answer.Counts.{Counts}
-use Rattle.eltoo.specs.Rounds.{Tour, starting, visits}
-use Rattle.eltoo.specs.Stations.{count}
-
--- the place of a parent
-abbrev pub parent_place : Option Parent → Option ℕ
-parent_place None = None
-parent_place (Some u) = Some u.place
+use Rattle.eltoo.specs.Rounds.{Tour, one_post, one_settlement, one_refusal}
+use Rattle.tower.specs.declared.visiting.Visit.{Visit}
 
 -- a round so far
 abbrev pub toured : Model → Counts → Tour
 toured m c = record { ledger = m; counts = c }
 
--- no count is above n
-pub record Few (c : Counts) (n : ℕ) : Type 0 where
-  pub posts : c.posts ≤ n
-  pub settlements : c.settlements ≤ n
-  pub refusals : c.refusals ≤ n
+-- the counts after a call of the host, if one was made: one more of its sort, or one refusal more
+abbrev pub noted : {A : Type 0} → (Counts → Counts) → Option (Result A Refusal) → Counts → Counts
+noted on_more None c = c
+noted on_more (Some (Ok x)) c = on_more c
+noted on_more (Some (Err e)) c = one_refusal c
 
--- a round that began at the ledger m, after n visits: the ledger now, and the counts
-pub record Midway (ks : List Bool) (t : List (Option Update)) (m : Model) (n : ℕ) (now : Model) (c : Counts) : Type 0 where
-  pub tour : toured now c ≡ visits ks t n (starting m)
-  pub places : count now ≡ count m
-  pub few : Few c (2 * n)
+-- the counts after a visit
+abbrev pub with_visit : Visit → Counts → Counts
+with_visit v c = noted one_settlement v.settlement (noted one_post v.post c)

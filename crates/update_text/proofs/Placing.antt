@@ -1,5 +1,6 @@
 use Rattle.std.proofs.Common.{◌≡◌, ℕ, ◌+◌, ◌-◌, ◌/◌, ◌%◌, ◌^◌, ◌<◌, ◌≤◌, List, [], ◌∷◌, ◌++◌, length, take, drop, set, decimal, sym, ap, ◌∙◌, append_assoc, append-nil, arith, lit<, length-append}
 use Rattle.std.proofs.lemmas.List.{drop-set, drop_all, drop-drop, drop_at, take_at, take_all, length-drop}
+use Rattle.std.proofs.lemmas.Grind.{common_steps}
 use borrow.Rule.Slice.PartMut.{put_mid}
 use Rattle.update_text.specs.Line.{line}
 use Rattle.std.proofs.lemmas.Fmt.{decimal_digit, decimal_step, decimal_nonempty, length-decimal-le}
@@ -13,29 +14,17 @@ len_step n h f = ap length (decimal_step n h f) ∙ length-append (decimal (n / 
 pub len_most : (n : ℕ) → n < 2 ^ 64 → length (decimal n) ≤ 20
 len_most n f = length-decimal-le 20 n (lit< tt) (omega arith) f
 
-pub len_some : (n : ℕ) → n < 2 ^ 64 → 0 < length (decimal n)
-len_some n f = decimal_nonempty n f
-
--- the last digit of `rest` goes in at `at`
-pub put_step : (n rest at : ℕ) (out : List ℕ) → 10 ≤ rest → rest < 2 ^ 64 → at < length out → decimal rest ++ drop (at + 1) out ≡ decimal n
-    → decimal (rest / 10) ++ drop at (set out at (48 + rest % 10)) ≡ decimal n
-put_step n rest at out h f lt e =
-    let d = drop-set out at (48 + rest % 10) lt in
-    let s = decimal_step rest h f in
-    let a = append_assoc (decimal (rest / 10)) ((48 + rest % 10) ∷ []) (drop (at + 1) out) in
-    ap (λ xs. decimal (rest / 10) ++ xs) d ∙ sym a ∙ ap (λ xs. xs ++ drop (at + 1) out) (sym s) ∙ e
-
--- the first digit goes in at 0
-pub put_first : (n rest at : ℕ) (out : List ℕ) → rest < 10 → at ≡ 0 → at < length out → decimal rest ++ drop (at + 1) out ≡ decimal n
-    → set out at (48 + rest) ≡ decimal n
-put_first n rest at out h z lt e =
-    let zs : 0 < length out = omega arith in
-    let d = drop-set out 0 (48 + rest) zs in
-    let s = decimal_digit rest h in
-    ap (λ k. set out k (48 + rest)) z ∙ d ∙ ap (λ xs. xs ++ drop 1 out) (sym s) ∙ ap (λ k. decimal rest ++ drop (k + 1) out) (sym z) ∙ e
-
-pub put_none : (n k : ℕ) (out : List ℕ) → length out ≤ k → decimal n ++ drop k out ≡ decimal n
-put_none n k out h = ap (λ xs. decimal n ++ xs) (drop_all k out h) ∙ append-nil (decimal n)
+-- the last digit of `rest` goes in at `at`, before the digits that stand there already
+pub put_digit : (n rest to at : ℕ) (out : List ℕ) → rest < 2 ^ 64 → to ≡ at + 1 → at < length out → length (decimal rest) ≡ to → decimal rest ++ drop to out ≡ decimal n
+    → (at ≡ 0 → set out at (48 + rest % 10) ≡ decimal n) × (0 < at → length (decimal (rest / 10)) ≡ at) × (0 < at → decimal (rest / 10) ++ drop at (set out at (48 + rest % 10)) ≡ decimal n)
+put_digit n rest to at out f t l len e =
+    let c = 48 + rest % 10 in
+    let d : drop at (set out at c) ≡ c ∷ drop to out = drop-set out at c l ∙ ap (λ k. c ∷ drop k out) (sym t) in
+    let one : at ≡ 0 → set out at c ≡ decimal n = λ z.
+    let h : rest < 10 = grind (arith, len_step, decimal_nonempty) in
+    let r : 48 + rest ≡ c = omega arith in
+    ap (λ k. drop k (set out at c)) (sym z) ∙ d ∙ ap (λ x. x ∷ drop to out) (sym r) ∙ ap (λ xs. xs ++ drop to out) (sym (decimal_digit rest h)) ∙ e in
+    (one, (λ p. grind (arith, common_steps, decimal_digit, len_step)), (λ p. grind (arith, common_steps, decimal_digit, decimal_step, len_step)))
 
 -- `xs` stands at the start of `old`, as `mid`; then the part from there on is lent, and `ys` is written at its start
 pub then_more : (old mid part xs ys : List ℕ) (a b : ℕ) → a ≡ length xs → b ≡ length ys → mid ≡ xs ++ drop a old → part ≡ ys ++ drop b (take (length mid - a) (drop a mid))
@@ -54,4 +43,4 @@ then_more old mid part xs ys a b ea eb em ep =
 
 pub line_length : (k : List ℕ) (n : ℕ) → length (line k n) ≡ length k + length (decimal n) + 1
 unfolding line
-line_length k n = omega (arith, length-append (k ++ decimal n) (10 ∷ []), length-append k (decimal n))
+line_length k n = grind (arith, common_steps)

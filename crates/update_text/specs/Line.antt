@@ -1,5 +1,4 @@
-use Rattle.std.specs.Prelude.{◌≡◌, ℕ, ◌+◌, ◌-◌, ◌*◌, ◌^◌, ◌<◌, ◌≤◌, min, List, [], ◌∷◌, ◌++◌, length, drop, Some, None, codes, decimal, Option, slice_index}
-use Rattle.std.specs.Int.{IsInRange}
+use Rattle.std.specs.Prelude.{◌≡◌, ℕ, ◌+◌, ◌-◌, ◌^◌, ◌<◌, ◌≤◌, min, List, [], ◌∷◌, ◌++◌, length, codes, decimal, slice_index}
 
 -- the keys of an update text, in the order of its lines
 abbrev pub key_list : List (List ℕ)
@@ -41,31 +40,12 @@ pub record Good (n : ℕ) (bs : List ℕ) : Type 0 where
 abbrev pub FirstBad : ℕ → List ℕ → Type 0
 FirstBad n bs = (1 ≤ n) × (n ≤ length keys + 1) × Good (n - 1) bs × (Good n bs → ⊥)
 
--- What the steps of reading a line answer.
-
--- only digits
-abbrev pub AllDigits : List ℕ → Type 0
-AllDigits ds = (i : ℕ) → i < length ds → IsInRange 48 57 (slice_index ds i)
-
--- the number that digits write, after the number so far
-abbrev pub read_on : ℕ → List ℕ → ℕ
-read_on n [] = n
-read_on n (c ∷ cs) = read_on (n * 10 + (c - 48)) cs
+-- What the steps of reading a line speak of.
 
 -- `bs` begins with this number and a newline, and goes on with `rest`
 abbrev pub HasValue : List ℕ → ℕ → List ℕ → Type 0
 HasValue bs v rest = (v < 2 ^ 64) × (bs ≡ decimal v ++ (10 ∷ rest))
 
--- the number that `bs` begins with and the length of it and its newline, or that there is none
-abbrev pub ReadsValue : List ℕ → Option (ℕ × ℕ) → Type 0
-ReadsValue bs (Some p) = (p.1 ≤ length bs) × HasValue bs p.0 (drop p.1 bs)
-ReadsValue bs None = (v : ℕ) (rest : List ℕ) → HasValue bs v rest → ⊥
-
 -- `bs` begins with the good line of this key and value, and goes on with `rest`
 abbrev pub Begins : List ℕ → List ℕ → ℕ → List ℕ → Type 0
 Begins key bs v rest = (v < 2 ^ 64) × (bs ≡ line key v ++ rest)
-
--- the value and the length of the good line that `bs` begins with, or that there is none
-abbrev pub ReadsLine : List ℕ → List ℕ → Option (ℕ × ℕ) → Type 0
-ReadsLine key bs (Some p) = (p.1 ≤ length bs) × Begins key bs p.0 (drop p.1 bs)
-ReadsLine key bs None = (v : ℕ) (rest : List ℕ) → Begins key bs v rest → ⊥

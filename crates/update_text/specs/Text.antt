@@ -2,7 +2,7 @@ use Rattle.std.specs.Prelude.{◌≡◌, ℕ, ◌+◌, ◌-◌, ◌^◌, ◌<◌
 use Rattle.state.specs.declared.raw.RawState.{RawState}
 use Rattle.state.specs.declared.refusal.Refusal.{Refusal}
 use Rattle.state.specs.declared.update.Update.{Update}
-use Rattle.state.specs.Refusals.{told, answer, accepted, first, Leaves}
+use Rattle.state.specs.Refusals.{told, answer, first, Leaves}
 use Rattle.state.specs.States.{words, raw_words, making_checks}
 use Rattle.update_text.specs.Line.{lines, keys, FirstBad, Values}
 
@@ -36,11 +36,6 @@ pub record Reads (bs : List ℕ) (r : Result Update Refusal) : Type 0 where
   pub line : (n : ℕ) → FirstBad n bs → answer r ≡ (18, n ∷ [])
   -- where all lines are good, the answer is that of making the state
   pub checks : (raw : RawState) (seal : ℕ) → Values bs (raw_values raw seal) → answer r ≡ first (making_checks raw)
-
--- making a state of these figures answers so, and what was made has them and this seal
-abbrev pub Made : RawState → ℕ → Result Update Refusal → Type 0
-Made raw seal (Ok u) = (accepted ≡ first (making_checks raw)) × (words u.state ≡ raw_words raw) × (u.seal ≡ seal)
-Made raw seal (Err e) = told e ≡ first (making_checks raw)
 
 -- the buffer `old` with `t` written from `pos` on, and nothing else changed
 abbrev pub written : List ℕ → ℕ → List ℕ → List ℕ

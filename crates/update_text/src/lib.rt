@@ -1,7 +1,6 @@
 // The update text: a state and its seal as lines of keys and decimal values.
 #![tactic(auto)]
 
-mod fields;
 mod keys;
 mod parse;
 mod put;

@@ -1,87 +1,71 @@
-ghost use Rattle.std.specs.Prelude.{◌≡◌, ℕ, ◌+◌, ◌-◌, ◌*◌, ◌^◌, ◌<◌, ◌≤◌, length, Decides, MatchOption, MatchResult, slice_index};
-ghost use Rattle.std.specs.Int.{IsInRange};
-ghost use Rattle.update_text.specs.Line.{AllDigits, read_on, ReadsValue, ReadsLine, FirstBad, Values};
+ghost use Rattle.std.specs.Prelude.{◌≡◌, ◌↔◌, ◌==◌, position, ℕ, List, ◌^◌, ◌<◌, IsTrue, MatchOption, MatchResult, decimal, length, slice_index};
+ghost use Rattle.state.specs.declared.refusal.Refusal.{Refusal};
+ghost use Rattle.state.specs.declared.refusal.Refusal.TheVariants.{BadLine};
+ghost use Rattle.update_text.specs.Line.{Begins, FirstBad, HasValue, Values};
 
-use crate::keys::{LINES, key};
-
-// How many digits `src` begins with.
-fn digits(src: &[u8]) -> usize
-    ensures within { result ≤ length src.now }
-    ensures all { (k : ℕ) → k < result → IsInRange 48 57 (slice_index src.now k) }
-    ensures next { result < length src.now → IsInRange 48 57 (slice_index src.now result) → ⊥ }
-{
-    for (i, b) in src.iter().enumerate() {
-        if *b < b'0' || *b > b'9' {
-            return i;
-        }
-    }
-    src.len()
-}
-
-// The number that the digits write, if it fits.
-fn number(digits: &[u8]) -> Option<u64>
-    requires { AllDigits digits.now }
-    ensures { MatchOption result (2 ^ 64 ≤ read_on 0 digits.now) (λ v. v ≡ read_on 0 digits.now) }
-{
-    let mut value: u64 = 0;
-    for b in digits {
-        let digit = u64::from(*b - b'0');
-        if value > (u64::MAX - digit) / 10 {
-            return None;
-        }
-        value = value * 10 + digit;
-    }
-    Some(value)
-}
+use crate::keys::{KEYS, LINES};
+use state::refusal::Refusal;
+use std::str::from_utf8;
 
 // Whether the digits begin with a zero that is not the whole number.
 fn leading_zero(digits: &[u8]) -> bool
-    ensures { Decides result ((1 < length digits.now) × (slice_index digits.now 0 ≡ 48)) }
+    ensures { IsTrue result ↔ ((1 < length digits.now) × (slice_index digits.now 0 ≡ 48)) }
 {
-    digits.len() > 1 && digits[0] == b'0'
+    matches!(digits, [b'0', _, ..])
 }
 
-// The number that `src` begins with and that a newline ends, and the length of both.
-fn value(src: &[u8]) -> Option<(u64, usize)>
-    ensures { ReadsValue src.now result }
+// The number that these bytes are the decimal digits of.
+#[tactic(auto, using(crate::proofs::Decimals::plus_none, crate::proofs::Decimals::zero_none, crate::proofs::Decimals::utf8_none, crate::proofs::Decimals::parsed))]
+fn number(digits: &[u8]) -> Option<u64>
+    ensures { MatchOption result ((v : ℕ) → v < 2 ^ 64 → digits.now ≡ decimal v → ⊥) (λ v. digits.now ≡ decimal v) }
 {
-    let count = digits(src);
-    if count == 0 || count == src.len() || src[count] != b'\n' {
+    // `parse` also takes a plus and leading zeros
+    if digits.starts_with(b"+") || leading_zero(digits) {
         return None;
     }
-    if leading_zero(&src[..count]) {
+    let Ok(text) = from_utf8(digits) else {
         return None;
-    }
-    let value = number(&src[..count])?;
-    Some((value, count + 1))
+    };
+    text.parse().ok()
 }
 
-// The value of the good line of `key` that `src` begins with, and the length of this line.
-fn line(src: &[u8], key: &[u8]) -> Option<(u64, usize)>
-    ensures { ReadsLine key.now src.now result }
+// Where the first line of `src` ends, if a newline ends it.
+fn line_end(src: &[u8]) -> Option<usize>
+    ensures { result ≡ position (λ b. b == 10) src.now }
 {
-    let rest = src.strip_prefix(key)?;
-    let (value, len) = value(rest)?;
-    Some((value, key.len() + len))
+    src.iter().position(|b| *b == b'\n')
 }
 
-// The values of the lines that `src` consists of, or else the number of the first bad line.
-pub(crate) fn values(src: &[u8]) -> Result<[u64; LINES], usize>
-    ensures { MatchResult result (λ vs. Values src.now vs) (λ n. FirstBad n src.now) }
+// The number that `src` begins with and that a newline ends, and the bytes after it.
+fn value(src: &[u8]) -> Option<(u64, &[u8])>
+    ensures { MatchOption result ((v : ℕ) (rest : List ℕ) → HasValue src.now v rest → ⊥) (λ p. HasValue src.now p.0 p.1.now) }
+{
+    let end = line_end(src)?;
+    let value = number(&src[..end])?;
+    Some((value, &src[end + 1..]))
+}
+
+// The value of the good line of `key` that `src` begins with, and the bytes after it.
+fn line<'a>(src: &'a [u8], key: &[u8]) -> Option<(u64, &'a [u8])>
+    ensures { MatchOption result ((v : ℕ) (rest : List ℕ) → Begins key.now src.now v rest → ⊥) (λ p. Begins key.now src.now p.0 p.1.now) }
+{
+    value(src.strip_prefix(key)?)
+}
+
+// The values of the lines that `src` consists of, or else its first bad line.
+pub(crate) fn values(src: &[u8]) -> Result<[u64; LINES], Refusal>
+    ensures { MatchResult result (λ vs. Values src.now vs) (λ e. (n : ℕ) × FirstBad n src.now × (e ≡ BadLine n)) }
 {
     let mut values = [0; LINES];
-    let mut at = 0;
-    for i in 0..LINES {
-        match line(&src[at..], key(i)) {
-            None => return Err(i + 1),
-            Some((value, len)) => {
-                values[i] = value;
-                at += len;
-            }
-        }
+    let mut rest = src;
+    // by index: a `zip` with `iter_mut` tells a proof nothing of what was written
+    for (i, &key) in KEYS.iter().enumerate() {
+        let (value, after) = line(rest, key).ok_or(Refusal::BadLine(i + 1))?;
+        values[i] = value;
+        rest = after;
     }
-    if at < src.len() {
-        return Err(LINES + 1);
+    if !rest.is_empty() {
+        return Err(Refusal::BadLine(LINES + 1));
     }
     Ok(values)
 }

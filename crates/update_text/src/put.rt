@@ -2,12 +2,15 @@ ghost use Rattle.std.specs.Prelude.{◌≡◌, ◌+◌, ◌≤◌, ◌++◌, len
 ghost use Rattle.update_text.specs.Line.{line as line_of, lines, keys};
 ghost use Rattle.update_text.specs.Text.{written};
 
-use crate::keys::{LINES, key};
+use crate::keys::{KEYS, LINES};
 
 // How many decimal digits `n` has.
+#[tactic(auto, using(crate::proofs::Placing::len_one, crate::proofs::Placing::len_step, crate::proofs::Placing::len_most))]
 fn digit_count(n: u64) -> usize
-    ensures { (result ≡ length (decimal n)) × (result ≤ 20) }
+    ensures count { result ≡ length (decimal n) }
+    ensures most { result ≤ 20 }
 {
+    // std counts no decimal digits, and prints them only to a writer
     let mut rest = n;
     let mut count = 1;
     while rest >= 10 {
@@ -22,14 +25,12 @@ fn put_decimal(out: &mut [u8], n: u64)
     requires { length out.old ≡ length (decimal n) }
     ensures { out.new ≡ decimal n }
 {
-    let mut at = out.len() - 1;
     let mut rest = n;
-    while rest >= 10 {
-        out[at] = b'0' + (rest % 10) as u8;
+    // by places: `iter_mut().rev()` tells a proof nothing of what was written
+    for place in (0..out.len()).rev() {
+        out[place] = b'0' + (rest % 10) as u8;
         rest /= 10;
-        at -= 1;
     }
-    out[at] = b'0' + rest as u8;
 }
 
 // Writes `bytes` at the start of `out`, and says how many they are.
@@ -38,7 +39,7 @@ fn put_bytes(out: &mut [u8], bytes: &[u8]) -> usize
     ensures len { result ≡ length bytes.now }
     ensures after { out.new ≡ bytes.now ++ drop result out.old }
 {
-    out[0..bytes.len()].copy_from_slice(bytes);
+    out[..bytes.len()].copy_from_slice(bytes);
     bytes.len()
 }
 
@@ -49,11 +50,12 @@ fn put_number(out: &mut [u8], n: u64) -> usize
     ensures after { out.new ≡ decimal n ++ drop result out.old }
 {
     let count = digit_count(n);
-    put_decimal(&mut out[0..count], n);
+    put_decimal(&mut out[..count], n);
     count
 }
 
 // Writes the line of `key` and `value` at the start of `out`, and says how long it is.
+#[tactic(auto, using(crate::proofs::Placing::then_more), unfolding(crate::specs::Line::line))]
 fn put_line(out: &mut [u8], key: &[u8], value: u64) -> usize
     requires { length key.now + length (decimal value) + 1 ≤ length out.old }
     ensures len { result ≡ length key.now + length (decimal value) + 1 }
@@ -69,8 +71,8 @@ pub(crate) fn lines_len(values: &[u64; LINES]) -> usize
     ensures { result ≡ length (lines keys values.now) }
 {
     let mut len = 0;
-    for i in 0..LINES {
-        len += key(i).len() + digit_count(values[i]) + 1;
+    for (key, value) in KEYS.iter().zip(values) {
+        len += key.len() + digit_count(*value) + 1;
     }
     len
 }
@@ -83,8 +85,8 @@ pub(crate) fn put_lines(buf: &mut [u8], pos: usize, values: &[u64; LINES]) -> us
     ensures after { buf.new ≡ written buf.old pos (lines keys values.now) }
 {
     let mut at = pos;
-    for i in 0..LINES {
-        at += put_line(&mut buf[at..], key(i), values[i]);
+    for (key, value) in KEYS.iter().zip(values) {
+        at += put_line(&mut buf[at..], key, *value);
     }
     at
 }

@@ -8,19 +8,19 @@ use state::refusal::Refusal;
 use state::update::Update;
 
 // The values of an update, in the order of the lines.
+#[tactic(auto, unfolding(crate::specs::Text::text_of))]
 fn values_of(update: Update) -> [u64; LINES]
-    ensures text { lines keys result ≡ text_of update }
-    ensures laws { OneToOne }
+    ensures { lines keys result ≡ text_of update }
 {
-    let mut values = [0; LINES];
-    let state = update.state;
-    values[0..LINES - 1].copy_from_slice(&state.words());
-    values[LINES - 1] = update.seal;
+    // the words go before the seal
+    let mut values = [update.seal; LINES];
+    values[..LINES - 1].copy_from_slice(&update.state.words());
     values
 }
 
 // Writes the text of an update into `buf` from `pos` on, and answers the position after it.
 // Where the text does not fit from there, nothing is written.
+#[tactic(auto, using(crate::proofs::Reading::one_to_one))]
 pub fn write(buf: &mut [u8], pos: usize, update: Update) -> Result<usize, Refusal>
     ensures answer { Writes update buf.old pos result buf.new }
     ensures laws { OneToOne }

@@ -1,87 +1,58 @@
 #![tactic(auto)]
 
-ghost use Rattle.std.specs.Prelude.{◌≤◌, length};
+ghost use Rattle.std.specs.Prelude.{length};
+ghost use Rattle.std.specs.Iterator.{at_most};
 
-use anyhow::anyhow;
+use anyhow::bail;
 use batch::text_end;
 use seal::key::KeyRecord;
 use seal::scheme::Scheme;
 use seal::tag::{MAX_LIMIT, TagScheme};
 use state::refusal::Refusal;
+use state::state::State;
 use state::update::Update;
-use std::alloc::{AllocError, Global};
 use std::io::Read;
+use std::str::from_utf8;
 use update_text::read::read;
 use update_text::write::write;
 
 // A text is at most 213 bytes long.
 const BUFFER: usize = 256;
 
-// The refusal in words.
-fn name(refusal: Refusal) -> &'static str {
-    match refusal {
-        Refusal::NoSuchPlace => "no such place",
-        Refusal::BadNumber => "bad number",
-        Refusal::OverLimit => "over the limit",
-        Refusal::Shut => "shut",
-        Refusal::Settled => "settled",
-        Refusal::WrongTotal => "wrong total",
-        Refusal::NotNewer => "not newer",
-        Refusal::BadSeal => "bad seal",
-        Refusal::InContest => "in contest",
-        Refusal::ParentNotAgreed => "parent not agreed",
-        Refusal::AllotmentBound => "allotment bound",
-        Refusal::NothingAgreed => "nothing agreed",
-        Refusal::TooEarly => "too early",
-        Refusal::NothingPosted => "nothing posted",
-        Refusal::BadStep => "bad step",
-        Refusal::LastBlock => "last block",
-        Refusal::NoSealsLeft => "no seals left",
-        Refusal::BadLine(_) => "bad line",
-        Refusal::TooSmall => "too small",
-        Refusal::BadSetUp => "bad set-up",
-    }
-}
-
+// Prints the number of a refusal and its words.
 fn print_refusal(rt: &HostRuntime, refusal: Refusal) -> anyhow::Result<()> {
-    let number = refusal.number();
-    let name = name(refusal);
-    match refusal.line() {
-        Some(line) => println!(rt; "no {number} {name}, line {line}")?,
-        None => println!(rt; "no {number} {name}")?,
-    }
+    let number = u8::from(refusal);
+    println!(rt; "no {number} {refusal}")?;
     Ok(())
 }
 
-// The key words of the first line: two decimal numbers with one space between them.
-fn key_words(heap: Global, line: &[u8]) -> Result<Option<KeyRecord>, AllocError> {
-    let Ok(text) = std::str::from_utf8(line) else {
-        return Ok(None);
-    };
-    let Some((first, second)) = text.split_once(' ') else {
-        return Ok(None);
-    };
-    let (Ok(k0), Ok(k1)) = (first.parse::<u64>(), second.parse::<u64>()) else {
-        return Ok(None);
-    };
-    // `parse` also takes a sign and leading zeros
-    let again = format!(in heap; "{k0} {k1}")?;
-    if again.as_str() == text {
-        Ok(Some(KeyRecord { k0, k1 }))
-    } else {
-        Ok(None)
+// The number that `text` is the decimal digits of.
+fn key_word(text: &str) -> Option<u64> {
+    // `parse` also takes a plus and leading zeros
+    if text.starts_with('+') || text.len() > 1 && text.starts_with('0') {
+        return None;
     }
+    text.parse().ok()
 }
 
-fn print_state(rt: &HostRuntime, update: Update) -> anyhow::Result<()> {
-    let state = update.state;
+// The key words of the first line: two decimal numbers with one space between them.
+fn key_words(line: &[u8]) -> Option<KeyRecord> {
+    let (first, second) = from_utf8(line).ok()?.split_once(' ')?;
+    Some(KeyRecord {
+        k0: key_word(first)?,
+        k1: key_word(second)?,
+    })
+}
+
+fn print_state(rt: &HostRuntime, state: State) -> anyhow::Result<()> {
     let place = state.place;
     let number = state.number.value;
     let total = state.total();
-    let [a0, a1, a2, a3, a4, a5, a6, a7] = state.amounts;
-    println!(rt;
-        "place {place} number {number} amounts {a0} {a1} {a2} {a3} {a4} {a5} {a6} {a7} total {total}"
-    )?;
+    print!(rt; "place {place} number {number} amounts")?;
+    for amount in state.amounts {
+        print!(rt; " {amount}")?;
+    }
+    println!(rt; " total {total}")?;
     Ok(())
 }
 
@@ -108,8 +79,7 @@ fn print_written(rt: &HostRuntime, text: &[u8], update: Update) -> anyhow::Resul
     let mut buf = [0; BUFFER];
     match write(&mut buf, 0, update) {
         Ok(end) => {
-            let same = end <= BUFFER && &buf[0..end] == text;
-            let said = if same {
+            let said = if buf.get(..end) == Some(text) {
                 "the same bytes"
             } else {
                 "other bytes"
@@ -132,7 +102,7 @@ fn print_text(rt: &HostRuntime, scheme: &mut TagScheme, text: &[u8]) -> anyhow::
             Ok(false)
         }
         Ok(update) => {
-            print_state(rt, update)?;
+            print_state(rt, update.state)?;
             print_tag(rt, scheme, update)?;
             print_written(rt, text, update)?;
             Ok(true)
@@ -140,55 +110,57 @@ fn print_text(rt: &HostRuntime, scheme: &mut TagScheme, text: &[u8]) -> anyhow::
     }
 }
 
+// The texts of an input, of which an empty line or the end of the input ends each.
+#[derive(Drop)]
+struct Texts<'a> {
+    rest: &'a [u8],
+}
+
+impl<'a> Iterator for Texts<'a> {
+    type Item = &'a [u8];
+
+    ghost remaining = { λ texts. at_most (length texts.rest.now) };
+
+    fn next(&mut self) -> Option<&'a [u8]> {
+        if self.rest.is_empty() {
+            return None;
+        }
+        let (text, after) = self.rest.split_at(text_end(self.rest));
+        self.rest = after.get(1..).unwrap_or(after);
+        Some(text)
+    }
+}
+
 // Goes through the texts after the key line, and ends with a count.
 fn print_texts(rt: &HostRuntime, scheme: &mut TagScheme, input: &[u8]) -> anyhow::Result<()> {
-    let mut at = 0;
     let mut count: u64 = 0;
     let mut accepted: u64 = 0;
-    while at < input.len() {
-        let len = text_end(&input[at..]);
+    for text in (Texts { rest: input }) {
         count = count.saturating_add(1);
         print!(rt; "text {count}: ")?;
-        if print_text(rt, scheme, &input[at..at + len])? {
+        if print_text(rt, scheme, text)? {
             accepted = accepted.saturating_add(1);
         }
-        // past the text and the empty line that ends it
-        at = if at + len < input.len() {
-            at + len + 1
-        } else {
-            input.len()
-        };
     }
     let refused = count.saturating_sub(accepted);
     println!(rt; "{count} texts: {accepted} accepted, {refused} refused")?;
     Ok(())
 }
 
-// The length of the first line, without its newline.
-fn first_line(input: &[u8]) -> usize
-    ensures { result ≤ length input.now }
-{
-    for (i, b) in input.iter().enumerate() {
-        if *b == b'\n' {
-            return i;
-        }
+// The first line, without its newline, and what follows it.
+fn first_line(input: &[u8]) -> (&[u8], &[u8]) {
+    match input.iter().position(|b| *b == b'\n') {
+        Some(end) => (&input[..end], &input[end + 1..]),
+        None => (input, &[]),
     }
-    input.len()
 }
 
 fn run(rt: &HostRuntime) -> anyhow::Result<()> {
-    let heap = rt.alloc();
-    let mut bytes = Vec::new(heap);
-    rt.stdin().read_to_end(&mut bytes)?;
-    let input = bytes.as_slice();
-    let len = first_line(input);
-    let Some(mut key) = key_words(heap, &input[0..len])? else {
-        return Err(anyhow!("line 1: expected two key words, decimal numbers below 2^64"));
-    };
-    let rest = if len < input.len() {
-        &input[len + 1..]
-    } else {
-        &input[len..]
+    let mut input = Vec::new(rt.alloc());
+    rt.stdin().read_to_end(&mut input)?;
+    let (first, rest) = first_line(&input);
+    let Some(mut key) = key_words(first) else {
+        bail!("line 1: expected two key words, decimal numbers below 2^64");
     };
     match TagScheme::set_up(&mut key, MAX_LIMIT) {
         Ok(mut scheme) => print_texts(rt, &mut scheme, rest),

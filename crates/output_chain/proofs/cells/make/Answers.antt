@@ -1,10 +1,9 @@
-use Rattle.std.proofs.Common.{List, Option, ap, ◌∙◌}
-use Rattle.output_chain.specs.declared.output.Output.{Output}
-use Rattle.output_chain.specs.Coins.{weigh}
-use Rattle.output_chain.proofs.Weights.{make_in}
+use Rattle.std.proofs.Common.{is_some, sym, ap, ◌∙◌}
+use Rattle.output_chain.proofs.Tallies.{free_there, made_in}
 use Rattle.output_chain.proofs.cells.make.Goals as goal
 
+pub unwrap-cell-requires : goal.unwrap-cell-requires
+unwrap-cell-requires c = ap is_some c.free.ensures ∙ free_there c.args.pool.now c.requires
+
 pub returns : goal.returns
-returns c f =
-    ap (λ (cells : List (Option Output)). weigh cells f) c.replace.ensures
-    ∙ make_in f c.args.pool.now c.free-at.result c.args.output c.free-at.ensures.0 c.free-at.ensures.1
+returns c f = made_in f c.args.pool.now c.unwrap-cell.result c.args.output (sym c.free.ensures ∙ c.unwrap-cell.ensures)

@@ -3,7 +3,7 @@ use Rattle.eltoo.specs.Lists.{calls_of, Performs}
 use Rattle.station.specs.Meaning.{meant}
 use Rattle.runs.proofs.performing.perform.Given as goal
 
-abbrev pub invariant-loop-i : goal.invariant-loop-i
-invariant-loop-i g l =
+abbrev pub invariant-loop-turn : goal.invariant-loop-turn
+invariant-loop-turn g l =
     (calls_of l.turns ≡ calls_of l.initial.turns)
-    × Performs g.S.Scheme.gives (meant g.B.Ledger.model g.S.Scheme.seals l.initial.station) (take l.i l.turns) (meant g.B.Ledger.model g.S.Scheme.seals l.station)
+    × Performs g.S.Scheme.gives (meant g.B.Ledger.model g.S.Scheme.seals l.initial.station) (take l.turn-index l.turns) (meant g.B.Ledger.model g.S.Scheme.seals l.station)

@@ -5,16 +5,17 @@ use Rattle.eltoo.proofs.Performing.{whole_run}
 use Rattle.station.specs.Meaning.{meant}
 use Rattle.runs.proofs.performing.run.Goals as goal
 
-pub returns : goal.returns
-returns g c =
+pub returns-clause-steps : goal.returns-clause-steps
+returns-clause-steps g c =
+    let own = g.S.Scheme.gives in
+    let t = meant g.B.Ledger.model g.S.Scheme.seals c.perform.new.station in
+    subst (λ (y : StationModel). Performs own y c.perform.new.turns t) c.set_up-station.ensures.means c.perform.ensures.performed.steps
+
+pub returns-clause-whole : goal.returns-clause-whole
+returns-clause-whole g c =
     let own = g.S.Scheme.gives in
     let s = meant g.B.Ledger.model g.S.Scheme.seals c.set_up-station.result in
     let t = meant g.B.Ledger.model g.S.Scheme.seals c.perform.new.station in
     let ts = c.perform.new.turns in
     let start = c.set_up-station.ensures in
-    let done = c.perform.ensures.performed in
-    record {
-      calls = c.perform.ensures.calls;
-      steps = subst (λ (y : StationModel). Performs own y ts t) start.means done.steps;
-      whole = subst (λ (y : StationModel). WholeRun own y ts t) start.means (whole_run own s t ts start.starts done);
-    }
+    subst (λ (y : StationModel). WholeRun own y ts t) start.means (whole_run own s t ts start.starts c.perform.ensures.performed)

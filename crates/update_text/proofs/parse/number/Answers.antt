@@ -1,25 +1,12 @@
-use Rattle.std.proofs.Common.{◌+◌, ◌*◌, drop, sym, ◌∙◌, arith, rules}
-use Rattle.update_text.proofs.Decimals.{read_on_ge, digit_step, digit_all}
+use Rattle.std.proofs.Common.{◌≡◌, ◌<◌, length, get_or, subst, arith, rules}
+use Rattle.std.specs.Str.Parse.{ParsesUnsigned}
+use Rattle.std.proofs.lemmas.Grind.{common_steps}
+use Rattle.update_text.proofs.Decimals.{parsed}
 use Rattle.update_text.proofs.parse.number.Goals as goal
 
-pub returns-then-value-digit : goal.returns-then-value-digit
-returns-then-value-digit c =
-    let ds = c.args.digits.now in
-    let i = c.loop-b.b-index in
-    let v = c.loop-b.value in
-    let d = c.from-digit.result in
-    let s = digit_step ds i v d (search rules) (search rules) in
-    let g = read_on_ge (v * 10 + d) (drop (i + 1) ds) in
-    omega (arith, s, c.loop-b.invariant)
-
-pub loop-b-preserved : goal.loop-b-preserved
-loop-b-preserved c =
-    let ds = c.args.digits.now in
-    let i = c.loop-b.b-index in
-    let v = c.loop-b.value in
-    let d = c.from-digit.result in
-    let s = digit_step ds i v d (search rules) (search rules) in
-    sym s ∙ c.loop-b.invariant
-
 pub returns : goal.returns
-returns c = sym (digit_all c.args.digits.now c.loop-b.b-index c.loop-b.value (search rules)) ∙ c.loop-b.invariant
+returns c =
+    let bs = c.args.digits.now in
+    let plus : get_or bs 0 0 ≡ 43 → ⊥ = grind (arith, common_steps) in
+    let zero : 1 < length bs → get_or bs 0 0 ≡ 48 → ⊥ = search rules in
+    rw c.ok.ensures.value (parsed bs c.parse.result (subst (λ t. ParsesUnsigned 64 10 t c.parse.result) c.in-Ok.ensures.cases.0 c.parse.ensures.value.0) plus zero)

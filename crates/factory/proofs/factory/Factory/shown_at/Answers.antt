@@ -1,12 +1,9 @@
-use Rattle.std.proofs.Common.{refl}
-use Rattle.factory.specs.Extended.{child_shows}
+use Rattle.std.proofs.Common.{refl, rules}
+use Rattle.factory.proofs.Calling.{child_shows}
 use Rattle.factory.proofs.factory.Factory.shown_at.Goals as goal
 
 pub returns : goal.returns
 returns g c =
     let s = c.args.self.now in
-    let m = g.B.Ledger.model s.below in
-    let p = c.args.place in
-    let h = c.shown-standing.ensures in
-    child_shows s.live m s.seat s.rows p c.args.index c.requires.at c.requires.within c.index-self-index.result _ c.value_at-value.result c.value_at-value.ensures
-    (record { parent = refl; delay = refl; funding = refl; status = h.0; amounts = h.1 })
+    child_shows s.children c.unwrap-children.result.now (g.B.Ledger.model s.below) c.args.place c.args.parent c.index-children-parent.result _ _ (search rules) c.requires
+    (record { parent = refl; delay = refl; funding = refl; status = search rules; amounts = search rules })

@@ -3,5 +3,5 @@ use Rattle.output_chain.proofs.chain.OutputChain.shown_at.Goals as goal
 
 pub returns : goal.returns
 returns c =
-    let h = c.standing-standing.ensures in
-    view_shows c.args.self.now c.args.place c.requires c.index-self-place.result c.standing-standing.result.0 c.standing-standing.result.1 h.status h.amounts
+    let s = c.standing-standing.result in
+    view_shows c.args.self.now c.args.root.place c.args.root.few c.index-self-root.result s.0 s.1 c.standing-standing.ensures

@@ -1,6 +1,0 @@
-use Rattle.std.proofs.Common.{◌≡◌, take, sum_by}
-use Rattle.output_chain.specs.Coins.{in_cell, own, spend}
-use Rattle.output_chain.proofs.cells.find.Given as goal
-
-abbrev pub invariant-loop-i : goal.invariant-loop-i
-invariant-loop-i l = sum_by (in_cell (own l.place spend)) (take l.i l.pool) ≡ 0

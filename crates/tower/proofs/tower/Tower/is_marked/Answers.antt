@@ -1,8 +1,0 @@
-use Rattle.std.proofs.Common.{false, sym, arith}
-use Rattle.std.proofs.lemmas.List.{get_or_past}
-use Rattle.tower.proofs.tower.Tower.is_marked.Goals as goal
-
-pub returns-else-place-lt-PLACES : goal.returns-else-place-lt-PLACES
-returns-else-place-lt-PLACES c =
-    let s = c.args.self.now in
-    sym (get_or_past s.marks c.args.place false (omega (arith, s.full)))
