@@ -25,7 +25,7 @@ impl Ledger for Adjudicator {
     }
 
     fn count(&self) -> usize {
-        self.roots.len()
+        self.roots.len() // every place is a root
     }
 
     fn view(&self, place: usize) -> Result<View, Refusal> {
@@ -39,19 +39,18 @@ impl Ledger for Adjudicator {
 impl Host for Adjudicator {
     ghost steps = { λ s law. (steps_keep _ law, steps_show _ law) };
 
-    // a root is copied and written back, since a proof knows no element after a `get_mut`
     fn post(&mut self, state: &State) -> Result<(), Refusal> {
-        let mut root = *self.roots.get(state.place).ok_or(Refusal::NoSuchPlace)?;
-        root.post(state, self.height)?;
-        self.roots[state.place] = root;
-        Ok(())
+        if state.place >= self.roots.len() {
+            return Err(Refusal::NoSuchPlace);
+        }
+        self.post_at(state)
     }
 
     fn settle(&mut self, place: usize) -> Result<(), Refusal> {
-        let mut root = *self.roots.get(place).ok_or(Refusal::NoSuchPlace)?;
-        root.settle(self.height)?;
-        self.roots[place] = root;
-        Ok(())
+        if place >= self.roots.len() {
+            return Err(Refusal::NoSuchPlace);
+        }
+        self.settle_at(place)
     }
 
     fn advance(&mut self, blocks: u64) -> Result<(), Refusal> {

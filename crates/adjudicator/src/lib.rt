@@ -3,4 +3,5 @@
 
 pub mod host;
 pub mod opening;
+mod step;
 pub mod table;

@@ -1,12 +1,25 @@
-ghost use Rattle.std.specs.Prelude.{◌≡◌};
+ghost use Rattle.std.specs.Prelude.{◌≡◌, map};
 ghost use Rattle.adjudicator.specs.Tables.{model_of};
 ghost use Rattle.ledger.specs.Laws.{Lawful, Untouched};
-ghost use Rattle.ledger.specs.SetUps.{started};
+ghost use Rattle.ledger.specs.SetUps.{funding_in, blocks_in, funding_made, delay_made, is_good, started};
+ghost use Rattle.ledger.specs.declared.setup.SetUp.{SetUp};
 
 use crate::table::Adjudicator;
 use ledger::root::Root;
-use ledger::setup::SetUp;
+use ledger::setup::{SetUp, Terms};
 use state::quantity::Height;
+
+// Eight open roots with these terms, at height 0.
+fn opened(terms: [Terms; 8]) -> Adjudicator
+    ensures start { (s : SetUp) → map funding_in terms ≡ map (funding_made (is_good s)) s.fundings → map blocks_in terms ≡ map (delay_made (is_good s)) s.delays → model_of result ≡ started s }
+    ensures lawful { (s : SetUp) → map funding_in terms ≡ map (funding_made (is_good s)) s.fundings → map blocks_in terms ≡ map (delay_made (is_good s)) s.delays → Lawful (model_of result) }
+    ensures untouched { (s : SetUp) → map funding_in terms ≡ map (funding_made (is_good s)) s.fundings → map blocks_in terms ≡ map (delay_made (is_good s)) s.delays → Untouched (model_of result) }
+{
+    Adjudicator {
+        height: Height { blocks: 0 },
+        roots: terms.map(Root::open),
+    }
+}
 
 impl Adjudicator {
     // Eight open roots at height 0. Against a bad set-up all fundings are 0 and all delays the longest.
@@ -15,9 +28,6 @@ impl Adjudicator {
         ensures lawful { Lawful (model_of result) }
         ensures untouched { Untouched (model_of result) }
     {
-        Adjudicator {
-            height: Height { blocks: 0 },
-            roots: setup.made().map(Root::open),
-        }
+        opened(setup.made())
     }
 }

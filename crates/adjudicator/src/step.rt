@@ -1,0 +1,32 @@
+ghost use Rattle.std.specs.Prelude.{◌≡◌, ◌<◌};
+ghost use Rattle.adjudicator.specs.Tables.{model_of};
+ghost use Rattle.ledger.specs.Steps.{Does, post_checks, post_next, settle_checks, settle_next};
+
+use crate::table::Adjudicator;
+use state::refusal::Refusal;
+use state::state::State;
+
+// A root is copied and written back, since a proof knows no element after a `get_mut`.
+impl Adjudicator {
+    // The post of a state whose place is there.
+    pub(crate) fn post_at(&mut self, state: &State) -> Result<(), Refusal>
+        requires { state.now.place < 8 }
+        ensures { Does result (model_of self.old) (model_of self.new) (post_checks (model_of self.old) state.now) (post_next (model_of self.old) state.now) }
+    {
+        let mut root = self.roots[state.place];
+        let answer = root.post(state, self.height);
+        self.roots[state.place] = root;
+        answer
+    }
+
+    // The settlement of a place that is there.
+    pub(crate) fn settle_at(&mut self, place: usize) -> Result<(), Refusal>
+        requires { place < 8 }
+        ensures { Does result (model_of self.old) (model_of self.new) (settle_checks (model_of self.old) place) (settle_next (model_of self.old) place) }
+    {
+        let mut root = self.roots[place];
+        let answer = root.settle(self.height);
+        self.roots[place] = root;
+        answer
+    }
+}
