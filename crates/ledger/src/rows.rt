@@ -51,6 +51,7 @@ impl Row {
             (Phase::Settled { .. }, _) => Err(Refusal::Settled),
             (Phase::Open, Call::Settle) => Err(Refusal::NothingPosted),
             (Phase::Posted { number, deadline }, Call::Settle) => {
+                // in blocks: a deadline may lie past the last height
                 if height.blocks < deadline.blocks {
                     return Err(Refusal::TooEarly);
                 }

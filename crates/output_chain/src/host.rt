@@ -43,6 +43,7 @@ impl Host for OutputChain {
         let unspent = self.unspent(place)?;
         let posted = unspent.output.posted().ok_or(Refusal::NothingPosted)?;
         let delay = self.delay_at(unspent);
+        // in blocks: the sum may lie past the last height
         if self.height.blocks < posted.since.blocks + delay.blocks {
             return Err(Refusal::TooEarly);
         }

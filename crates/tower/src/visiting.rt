@@ -28,6 +28,7 @@ fn is_due<B: Host>(host: &B, place: usize) -> bool
     };
     match view.standing {
         Standing::Posted { since, .. } => {
+            // in blocks: the sum may lie past the last height
             since.blocks + view.delay.blocks <= host.height().blocks
         }
         Standing::Shut | Standing::Open | Standing::Settled { .. } => false,
