@@ -13,6 +13,7 @@ pub fn account_of<L: Ledger>(ledger: &L) -> Account
     ensures conserved { Lawful (L.Ledger.model ledger.now) → Conserved (L.Ledger.model ledger.now) }
 {
     let mut account = Account::default();
+    // over the places' numbers: a ledger holds no list that could be gone through
     for place in 0..ledger.count() {
         account.add(&part_of(ledger, place));
     }

@@ -17,6 +17,7 @@ use station::station::Station;
 pub fn call<B: Host, S: Scheme>(station: &mut Station<B, S>, call: Call) -> Result<Outcome, Refusal>
     ensures { Makes B.Ledger.model S.Scheme.seals S.Scheme.gives station.old call result station.new }
 {
+    // a list of calls is handed in and looked at again, so a call is an enum's value and no closure
     match call {
         Call::Agree(state) => station.agree(&state).map(Outcome::Sealed),
         Call::Claim(place) => station.claim(place).map(|()| Outcome::Done),

@@ -33,6 +33,7 @@ impl Tower {
         ensures { toured (B.Ledger.model host.new) result ≡ visits (marks_of self.now) (newest_of self.now) (length (B.Ledger.model host.old).places) (starting (B.Ledger.model host.old)) }
     {
         let mut counts = Counts::default();
+        // over the places' numbers: a host holds no list that could be gone through
         for place in 0..host.count() {
             let visit = self.visit(host, place);
             count(&mut counts, &visit);
