@@ -1,7 +1,7 @@
-ghost use Rattle.std.specs.Prelude.{◌≡◌, map};
+ghost use Rattle.std.specs.Prelude.{◌≡◌};
 ghost use Rattle.adjudicator.specs.Tables.{model_of};
 ghost use Rattle.ledger.specs.Laws.{Lawful, Untouched};
-ghost use Rattle.ledger.specs.SetUps.{funding_in, blocks_in, funding_made, delay_made, is_good, started};
+ghost use Rattle.ledger.specs.SetUps.{MadeOf, started};
 ghost use Rattle.ledger.specs.declared.setup.SetUp.{SetUp};
 
 use crate::table::Adjudicator;
@@ -11,9 +11,9 @@ use state::quantity::Height;
 
 // Eight open roots with these terms, at height 0.
 fn opened(terms: [Terms; 8]) -> Adjudicator
-    ensures start { (s : SetUp) → map funding_in terms ≡ map (funding_made (is_good s)) s.fundings → map blocks_in terms ≡ map (delay_made (is_good s)) s.delays → model_of result ≡ started s }
-    ensures lawful { (s : SetUp) → map funding_in terms ≡ map (funding_made (is_good s)) s.fundings → map blocks_in terms ≡ map (delay_made (is_good s)) s.delays → Lawful (model_of result) }
-    ensures untouched { (s : SetUp) → map funding_in terms ≡ map (funding_made (is_good s)) s.fundings → map blocks_in terms ≡ map (delay_made (is_good s)) s.delays → Untouched (model_of result) }
+    ensures start { (s : SetUp) → MadeOf s terms → model_of result ≡ started s }
+    ensures lawful { (s : SetUp) → MadeOf s terms → Lawful (model_of result) }
+    ensures untouched { (s : SetUp) → MadeOf s terms → Untouched (model_of result) }
 {
     Adjudicator {
         height: Height { blocks: 0 },

@@ -6,17 +6,15 @@ use crate::table::Adjudicator;
 use state::refusal::Refusal;
 use state::state::State;
 
-// A root is copied and written back, since a proof knows no element after a `get_mut`.
 impl Adjudicator {
     // The post of a state whose place is there.
     pub(crate) fn post_at(&mut self, state: &State) -> Result<(), Refusal>
         requires { state.now.place < 8 }
         ensures { Does result (model_of self.old) (model_of self.new) (post_checks (model_of self.old) state.now) (post_next (model_of self.old) state.now) }
     {
-        let mut root = self.roots[state.place];
-        let answer = root.post(state, self.height);
-        self.roots[state.place] = root;
-        answer
+        let height = self.height;
+        let roots = &mut self.roots;
+        roots[state.place].post(state, height)
     }
 
     // The settlement of a place that is there.
@@ -24,9 +22,8 @@ impl Adjudicator {
         requires { place < 8 }
         ensures { Does result (model_of self.old) (model_of self.new) (settle_checks (model_of self.old) place) (settle_next (model_of self.old) place) }
     {
-        let mut root = self.roots[place];
-        let answer = root.settle(self.height);
-        self.roots[place] = root;
-        answer
+        let height = self.height;
+        let roots = &mut self.roots;
+        roots[place].settle(height)
     }
 }

@@ -1,4 +1,4 @@
-use Rattle.std.specs.Prelude.{ℕ, Bool, not, ◌&&◌, ◌||◌, List, [], ◌∷◌, None, ◌==◌, nat_le, if◌then◌else◌}
+use Rattle.std.specs.Prelude.{◌≡◌, map, ℕ, Bool, not, ◌&&◌, ◌||◌, List, [], ◌∷◌, None, ◌==◌, nat_le, if◌then◌else◌}
 use Rattle.std.specs.List.{list_all}
 use Rattle.state.specs.Limits.{min_delay, max_delay, max_total}
 use Rattle.state.specs.declared.quantity.Delay.{Delay}
@@ -49,6 +49,11 @@ funding_in t = t.funding
 
 abbrev pub blocks_in : Terms → ℕ
 blocks_in t = t.delay.blocks
+
+-- the terms of the roots that are made of a set-up
+pub record MadeOf (s : SetUp) (ts : List Terms) : Type 0 where
+  pub fundings : map funding_in ts ≡ map (funding_made (is_good s)) s.fundings
+  pub delays : map blocks_in ts ≡ map (delay_made (is_good s)) s.delays
 
 -- a root that holds no state
 abbrev pub open_root : ℕ → ℕ → Place

@@ -51,8 +51,7 @@ impl Row {
             (Phase::Settled { .. }, _) => Err(Refusal::Settled),
             (Phase::Open, Call::Settle) => Err(Refusal::NothingPosted),
             (Phase::Posted { number, deadline }, Call::Settle) => {
-                // in blocks: a deadline may lie past the last height
-                if height.blocks < deadline.blocks {
+                if !deadline.is_reached(height) {
                     return Err(Refusal::TooEarly);
                 }
                 self.phase = Phase::Settled { number: *number };
@@ -85,9 +84,7 @@ impl Row {
     {
         self.phase = Phase::Posted {
             number: state.number,
-            deadline: Deadline {
-                blocks: height.blocks + self.delay.blocks,
-            },
+            deadline: Deadline::of(height, self.delay),
         };
         self.amounts = state.amounts;
     }

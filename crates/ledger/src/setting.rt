@@ -1,5 +1,5 @@
 ghost use Rattle.std.specs.Prelude.{◌≡◌, true, not, ◌||◌, [], ◌∷◌, map, IfOk, nat_lt};
-ghost use Rattle.ledger.specs.SetUps.{good_delay, good_delays, set_up_checks, is_good, delay_made, funding_made, blocks_of, funding_in, blocks_in};
+ghost use Rattle.ledger.specs.SetUps.{good_delay, good_delays, set_up_checks, is_good, delay_made, funding_made, blocks_of, funding_in, blocks_in, MadeOf};
 ghost use Rattle.state.specs.Limits.{max_delay, max_total};
 ghost use Rattle.state.specs.Refusals.{answer, first};
 
@@ -65,7 +65,7 @@ impl SetUp {
         ensures delays { IfOk result (λ made. map blocks_in made ≡ map (delay_made true) self.now.delays) }
     {
         let mut made = [Terms::unfunded(); 8];
-        // by index: `try_from_fn` tells nothing of what its closure captures
+        // by index: tried as a `try_map` over pairs, and the proof did not close
         for i in 0..8 {
             made[i] = Terms::new(self.fundings[i], delay_of(self.delays[i])?)?;
         }
@@ -90,8 +90,7 @@ impl SetUp {
     // The terms of the roots that are made; against a bad set-up all fundings are 0 and all delays the longest.
     #[tactic(auto, using(crate::proofs::SettingUp::fundings_are, crate::proofs::SettingUp::delays_are))]
     pub fn made(&self) -> [Terms; 8]
-        ensures fundings { map funding_in result ≡ map (funding_made (is_good self.now)) self.now.fundings }
-        ensures delays { map blocks_in result ≡ map (delay_made (is_good self.now)) self.now.delays }
+        ensures { MadeOf self.now result }
     {
         self.terms().unwrap_or([Terms::unfunded(); 8])
     }

@@ -4,7 +4,7 @@ ghost use Rattle.state.specs.Limits.{max_total};
 use state::quantity::Delay;
 
 // The figures that a base host of eight roots is set up with, of which none is checked yet.
-// Two lists, as a set-up is given; a factory is given the delays alone.
+// Two arrays and not one of pairs: a caller writes `delays: [2; 8]`, and a factory takes the delays alone.
 #[derive(Clone, Copy, PartialEq, Eq, Debug)]
 pub struct SetUp {
     pub fundings: [u64; 8],

@@ -7,6 +7,7 @@ ghost use Rattle.ledger.proofs.Showing.{steps_show};
 
 use crate::chain::OutputChain;
 use ledger::host::Host;
+use ledger::phase::Deadline;
 use ledger::rising::raised;
 use ledger::setup::SetUp;
 use state::refusal::Refusal;
@@ -42,9 +43,8 @@ impl Host for OutputChain {
     fn settle(&mut self, place: usize) -> Result<(), Refusal> {
         let unspent = self.unspent(place)?;
         let posted = unspent.output.posted().ok_or(Refusal::NothingPosted)?;
-        let delay = self.delay_at(unspent);
-        // in blocks: the sum may lie past the last height
-        if self.height.blocks < posted.since.blocks + delay.blocks {
+        let deadline = Deadline::of(posted.since, self.delay_at(unspent));
+        if !deadline.is_reached(self.height) {
             return Err(Refusal::TooEarly);
         }
         self.pay_out(unspent, &posted);

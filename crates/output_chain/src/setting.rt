@@ -1,9 +1,9 @@
-ghost use Rattle.std.specs.Prelude.{◌≡◌, map};
+ghost use Rattle.std.specs.Prelude.{◌≡◌};
 ghost use Rattle.ledger.specs.Laws.{Lawful, Untouched};
-ghost use Rattle.ledger.specs.SetUps.{delay_made, funding_made, is_good, started};
+ghost use Rattle.ledger.specs.SetUps.{MadeOf, started};
 ghost use Rattle.ledger.specs.declared.setup.SetUp.{SetUp};
 ghost use Rattle.output_chain.specs.Chains.{model_of};
-ghost use Rattle.output_chain.specs.Models.{delays_of, fundings_of};
+ghost use Rattle.output_chain.specs.Models.{fundings_of};
 
 use crate::cells::{funding_outputs, make_all};
 use crate::chain::OutputChain;
@@ -20,7 +20,7 @@ fn fundings(roots: &[Terms; 8]) -> [u64; 8]
 impl OutputChain {
     // Eight open roots at height 0, each with its funding output.
     pub(crate) fn funded(roots: [Terms; 8]) -> OutputChain
-        ensures model { (s : SetUp) → fundings_of roots ≡ map (funding_made (is_good s)) s.fundings → delays_of roots ≡ map (delay_made (is_good s)) s.delays → model_of result ≡ started s }
+        ensures model { (s : SetUp) → MadeOf s roots → model_of result ≡ started s }
         ensures lawful { Lawful (model_of result) }
         ensures untouched { Untouched (model_of result) }
     {

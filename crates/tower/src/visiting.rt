@@ -7,6 +7,7 @@ ghost use Rattle.tower.specs.Towers.{newest_of, marks_of};
 
 use crate::tower::Tower;
 use ledger::host::{Host, Ledger};
+use ledger::phase::Deadline;
 use ledger::view::Standing;
 use state::refusal::Refusal;
 use state::state::State;
@@ -28,8 +29,7 @@ fn is_due<B: Host>(host: &B, place: usize) -> bool
     };
     match view.standing {
         Standing::Posted { since, .. } => {
-            // in blocks: the sum may lie past the last height
-            since.blocks + view.delay.blocks <= host.height().blocks
+            Deadline::of(since, view.delay).is_reached(host.height())
         }
         Standing::Shut | Standing::Open | Standing::Settled { .. } => false,
     }

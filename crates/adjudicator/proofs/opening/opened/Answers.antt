@@ -10,7 +10,7 @@ pub returns : goal.returns
 returns c =
     let opened = map_is _ (λ (t : Terms). open_root t.funding t.delay.blocks) root (λ p x y q h. search rules) (search rules) c.map.ensures.items in
     record {
-      start = λ s f d. (roots_start s c.args.terms c.map.result (search rules) f d opened).start;
-      lawful = λ s f d. (roots_start s c.args.terms c.map.result (search rules) f d opened).lawful;
-      untouched = λ s f d. (roots_start s c.args.terms c.map.result (search rules) f d opened).untouched;
+      start = λ s m. (roots_start s c.args.terms c.map.result (search rules) m.fundings m.delays opened).start;
+      lawful = λ s m. (roots_start s c.args.terms c.map.result (search rules) m.fundings m.delays opened).lawful;
+      untouched = λ s m. (roots_start s c.args.terms c.map.result (search rules) m.fundings m.delays opened).untouched;
     }

@@ -6,5 +6,5 @@ pub returns : goal.returns
 returns c =
     let roots = c.args.self.now.roots in
     let place = c.args.state.now.place in
-    let old = c.index-self-state in
-    root_posts _ roots c.args.state.now (get_or roots place old.result) c.post-answer.new.self (search rules) (ap (get_or roots place) (sym old.is)) _ c.post-answer.ensures
+    let old = c.index-roots-state in
+    root_posts _ roots c.args.state.now (get_or roots place old.result) c.post.new.self (search rules) (ap (get_or roots place) (sym old.is)) _ c.post.ensures

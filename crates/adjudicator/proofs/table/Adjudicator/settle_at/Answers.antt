@@ -5,5 +5,5 @@ use Rattle.adjudicator.proofs.table.Adjudicator.settle_at.Goals as goal
 pub returns : goal.returns
 returns c =
     let roots = c.args.self.now.roots in
-    let old = c.index-self-place in
-    root_settles _ roots c.args.place (get_or roots c.args.place old.result) c.settle-answer.new.self (search rules) (ap (get_or roots c.args.place) (sym old.is)) _ c.settle-answer.ensures
+    let old = c.index-roots-place in
+    root_settles _ roots c.args.place (get_or roots c.args.place old.result) c.settle.new.self (search rules) (ap (get_or roots c.args.place) (sym old.is)) _ c.settle.ensures

@@ -19,7 +19,7 @@ returns c =
     let exact = only_fundings pool (fundings_of ts) c.fundings.result c.funding_outputs.result c.make_all.ensures c.funding_outputs.ensures c.fundings.ensures in
     let eight : length ts ≡ 8 = search rules in
     record {
-      model = new_model ts pool exact eight;
+      model = λ s m. new_model ts pool exact eight s m.fundings m.delays;
       lawful = kept_lawful 0 ts pool (omega arith) (funded ts pool eight (omega arith) exact);
       untouched = new_untouched ts pool exact;
     }
