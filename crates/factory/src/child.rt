@@ -29,7 +29,7 @@ impl<B: Host> Factory<B> {
         })
     }
 
-    // The value of a child, none while it is shut.
+    // The value of a child, none while it is shut. The place is handed on with the parent, since clauses name the child by it.
     #[tactic(auto, using(crate::proofs::Calling::child_value))]
     pub(crate) fn value_at(&self, place: usize, parent: Parent) -> Option<u64>
         requires { IsChild self.now.children (B.Ledger.model self.now.below) place parent }

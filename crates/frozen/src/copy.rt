@@ -39,6 +39,7 @@ fn views_of<L: Ledger>(ledger: &L) -> [Option<View>; 64]
     ensures { (p : ℕ) → Holds (slice_index_or result p None) (L.Ledger.model ledger.now) p }
 {
     let mut views = [None; 64];
+    // a loop: `from_fn` tells a proof nothing of a ledger that its closure captures
     for (place, view) in views.iter_mut().enumerate() {
         *view = ledger.view(place).ok();
     }
