@@ -10,7 +10,7 @@ use state::state::State;
 
 // An answer, with the number of its refusal.
 pub(crate) fn told(answer: Result<(), Refusal>) -> Result<(), u8> {
-    answer.map_err(|refusal| u8::from(refusal))
+    answer.map_err(u8::from)
 }
 
 // The state of these figures, or the blank state.

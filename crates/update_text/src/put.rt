@@ -5,19 +5,12 @@ ghost use Rattle.update_text.specs.Text.{written};
 use crate::keys::{KEYS, LINES};
 
 // How many decimal digits `n` has.
-#[tactic(auto, using(crate::proofs::Placing::len_one, crate::proofs::Placing::len_step, crate::proofs::Placing::len_most))]
+#[tactic(auto, using(crate::proofs::Placing::len_one, crate::proofs::Placing::len_power, crate::proofs::Placing::len_most))]
 fn digit_count(n: u64) -> usize
     ensures count { result ≡ length (decimal n) }
     ensures most { result ≤ 20 }
 {
-    // std counts no decimal digits, and prints them only to a writer
-    let mut rest = n;
-    let mut count = 1;
-    while rest >= 10 {
-        rest /= 10;
-        count += 1;
-    }
-    count
+    n.checked_ilog10().map_or(1, |power| power as usize + 1)
 }
 
 // Fills `out`, which has a place for each digit of `n`, with them.

@@ -11,49 +11,53 @@ use seal::tag::{MAX_LIMIT, TagScheme};
 use state::refusal::Refusal;
 use state::state::State;
 use state::update::Update;
+use std::fmt;
 use std::io::Read;
 use std::str::from_utf8;
+use update_text::decimal::number;
 use update_text::read::read;
 use update_text::write::write;
 
 // A text is at most 213 bytes long.
 const BUFFER: usize = 256;
 
-// Prints the number of a refusal and its words.
-fn print_refusal(rt: &HostRuntime, refusal: Refusal) -> anyhow::Result<()> {
-    let number = u8::from(refusal);
-    println!(rt; "no {number} {refusal}")?;
-    Ok(())
-}
+// The number of a refusal and its words.
+#[derive(Drop)]
+struct Told(Refusal);
 
-// The number that `text` is the decimal digits of.
-fn key_word(text: &str) -> Option<u64> {
-    // `parse` also takes a plus and leading zeros
-    if text.starts_with('+') || text.len() > 1 && text.starts_with('0') {
-        return None;
+impl fmt::Display for Told {
+    fn fmt<W: fmt::Write>(&self, f: &mut fmt::Formatter<W>) -> fmt::Result {
+        let number = u8::from(self.0);
+        write!(f, "no {number} {}", self.0)
     }
-    text.parse().ok()
 }
 
 // The key words of the first line: two decimal numbers with one space between them.
 fn key_words(line: &[u8]) -> Option<KeyRecord> {
     let (first, second) = from_utf8(line).ok()?.split_once(' ')?;
     Some(KeyRecord {
-        k0: key_word(first)?,
-        k1: key_word(second)?,
+        k0: number(first.as_bytes())?,
+        k1: number(second.as_bytes())?,
     })
 }
 
-fn print_state(rt: &HostRuntime, state: State) -> anyhow::Result<()> {
-    let place = state.place;
-    let number = state.number.value;
-    let total = state.total();
-    print!(rt; "place {place} number {number} amounts")?;
-    for amount in state.amounts {
-        print!(rt; " {amount}")?;
+// The figures of a state.
+#[derive(Drop)]
+struct Shown(State);
+
+impl fmt::Display for Shown {
+    fn fmt<W: fmt::Write>(&self, f: &mut fmt::Formatter<W>) -> fmt::Result {
+        let state = &self.0;
+        write!(
+            f,
+            "place {} number {} amounts",
+            state.place, state.number.value
+        )?;
+        for amount in state.amounts {
+            write!(f, " {amount}")?;
+        }
+        write!(f, " total {}", state.total())
     }
-    println!(rt; " total {total}")?;
-    Ok(())
 }
 
 // Signs the state, and says whether the seal of the text is its tag.
@@ -67,10 +71,7 @@ fn print_tag(rt: &HostRuntime, scheme: &mut TagScheme, update: Update) -> anyhow
     };
     match scheme.sign(&state) {
         Ok(tag) => println!(rt; "  tag {tag}, seal {seal} {good}")?,
-        Err(refusal) => {
-            print!(rt; "  ")?;
-            print_refusal(rt, refusal)?;
-        }
+        Err(refusal) => println!(rt; "  {}", Told(refusal))?,
     }
     Ok(())
 }
@@ -86,10 +87,7 @@ fn print_written(rt: &HostRuntime, text: &[u8], update: Update) -> anyhow::Resul
             };
             println!(rt; "  written again: {end} bytes, {said}")?;
         }
-        Err(refusal) => {
-            print!(rt; "  ")?;
-            print_refusal(rt, refusal)?;
-        }
+        Err(refusal) => println!(rt; "  {}", Told(refusal))?,
     }
     Ok(())
 }
@@ -98,11 +96,11 @@ fn print_written(rt: &HostRuntime, text: &[u8], update: Update) -> anyhow::Resul
 fn print_text(rt: &HostRuntime, scheme: &mut TagScheme, text: &[u8]) -> anyhow::Result<bool> {
     match read(text) {
         Err(refusal) => {
-            print_refusal(rt, refusal)?;
+            println!(rt; "{}", Told(refusal))?;
             Ok(false)
         }
         Ok(update) => {
-            print_state(rt, update.state)?;
+            println!(rt; "{}", Shown(update.state))?;
             print_tag(rt, scheme, update)?;
             print_written(rt, text, update)?;
             Ok(true)
@@ -164,7 +162,10 @@ fn run(rt: &HostRuntime) -> anyhow::Result<()> {
     };
     match TagScheme::set_up(&mut key, MAX_LIMIT) {
         Ok(mut scheme) => print_texts(rt, &mut scheme, rest),
-        Err(refusal) => print_refusal(rt, refusal),
+        Err(refusal) => {
+            println!(rt; "{}", Told(refusal))?;
+            Ok(())
+        }
     }
 }
 

@@ -2,7 +2,7 @@ use Rattle.std.proofs.Common.{◌≡◌, ◌<◌, length, get_or, subst, arith, 
 use Rattle.std.specs.Str.Parse.{ParsesUnsigned}
 use Rattle.std.proofs.lemmas.Grind.{common_steps}
 use Rattle.update_text.proofs.Decimals.{parsed}
-use Rattle.update_text.proofs.parse.number.Goals as goal
+use Rattle.update_text.proofs.decimal.number.Goals as goal
 
 pub returns : goal.returns
 returns c =
