@@ -1,5 +1,5 @@
 ghost use Rattle.std.specs.Prelude.{◌≡◌, true, false, not, [], ◌∷◌, map, IfOk};
-ghost use Rattle.factory.specs.Extending.{founding_checks, founded, Founds};
+ghost use Rattle.factory.specs.Extending.{founding_checks, growing_checks, founded, Founds};
 ghost use Rattle.factory.specs.Factories.{model_of, is_empty};
 ghost use Rattle.ledger.specs.Laws.{Lawful, Untouched};
 ghost use Rattle.ledger.specs.Model.{status, shows_state};
@@ -97,7 +97,7 @@ impl<B: Host> Factory<B> {
     // Eight places more, the children of the seat, with these delays. 20 if it has children already, or against a refusal of `check`.
     #[tactic(auto, using(crate::proofs::Making::found_start, crate::proofs::Making::found_lawful, crate::proofs::Making::found_untouched))]
     pub fn found(&mut self, seat: usize, delays: &[u64; 8]) -> Result<(), Refusal>
-        ensures step { Does result (model_of B.Ledger.model self.old) (model_of B.Ledger.model self.new) ((not (is_empty self.old), 20) ∷ founding_checks (B.Ledger.model self.old.below) seat delays.now) (founded (B.Ledger.model self.old.below) seat delays.now) }
+        ensures step { Does result (model_of B.Ledger.model self.old) (model_of B.Ledger.model self.new) (growing_checks (is_empty self.old) (B.Ledger.model self.old.below) seat delays.now) (founded (B.Ledger.model self.old.below) seat delays.now) }
         ensures below { self.new.below ≡ self.old.below }
         ensures full { IfOk result (λ _. is_empty self.new ≡ false) }
         ensures lawful { Lawful (model_of B.Ledger.model self.old) → Lawful (model_of B.Ledger.model self.new) }
