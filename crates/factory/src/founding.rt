@@ -5,7 +5,7 @@ ghost use Rattle.ledger.specs.Laws.{Lawful, Untouched};
 ghost use Rattle.ledger.specs.Model.{status, shows_state};
 ghost use Rattle.ledger.specs.SetUps.{good_delays, figures, new_figures};
 ghost use Rattle.ledger.specs.Steps.{Does};
-ghost use Rattle.state.specs.Refusals.{answer, first};
+ghost use Rattle.state.specs.Refusals.{answer, first, Leaves};
 
 use crate::children::Children;
 use crate::factory::Factory;
@@ -99,7 +99,7 @@ impl<B: Host> Factory<B> {
     pub fn found(&mut self, seat: usize, delays: &[u64; 8]) -> Result<(), Refusal>
         ensures step { Does result (model_of B.Ledger.model self.old) (model_of B.Ledger.model self.new) (growing_checks (is_empty self.old) (B.Ledger.model self.old.below) seat delays.now) (founded (B.Ledger.model self.old.below) seat delays.now) }
         ensures below { self.new.below ≡ self.old.below }
-        ensures full { IfOk result (λ _. is_empty self.new ≡ false) }
+        ensures full { Leaves result (is_empty self.old) (is_empty self.new) (λ _. is_empty self.new ≡ false) }
         ensures lawful { Lawful (model_of B.Ledger.model self.old) → Lawful (model_of B.Ledger.model self.new) }
         ensures untouched { Lawful (model_of B.Ledger.model self.old) → Untouched (model_of B.Ledger.model self.old) → Untouched (model_of B.Ledger.model self.new) }
     {
