@@ -3,4 +3,5 @@
 
 pub mod base;
 pub mod host;
+pub mod pile;
 pub mod scheme;
