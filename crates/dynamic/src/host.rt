@@ -1,4 +1,4 @@
-ghost use Rattle.std.specs.Prelude.{◌≡◌};
+ghost use Rattle.std.specs.Prelude.{◌≡◌, true, None, is_some};
 ghost use Rattle.dynamic.specs.Bases.{model_of, pool_of};
 ghost use Rattle.dynamic.specs.Laying.{base_laid};
 ghost use Rattle.ledger.proofs.Keeping.{laws_hold, steps_keep};
@@ -22,6 +22,7 @@ impl Base {
         ensures start { model_of result ≡ started setup.now }
         ensures lawful { Lawful (model_of result) }
         ensures untouched { Untouched (model_of result) }
+        ensures pool { is_some (pool_of result) ≡ true }
     {
         Base::Chain(OutputChain::new(setup))
     }
@@ -31,6 +32,7 @@ impl Base {
         ensures start { model_of result ≡ started setup.now }
         ensures lawful { Lawful (model_of result) }
         ensures untouched { Untouched (model_of result) }
+        ensures pool { pool_of result ≡ None }
     {
         Base::Adjudicator(Adjudicator::new(setup))
     }

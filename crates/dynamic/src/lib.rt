@@ -5,3 +5,5 @@ pub mod base;
 pub mod host;
 pub mod pile;
 pub mod scheme;
+#[cfg(test)]
+mod tests;

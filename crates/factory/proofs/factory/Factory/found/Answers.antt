@@ -1,5 +1,5 @@
-use Rattle.std.proofs.Common.{rules, ◌≡◌, true, is_none}
-use Rattle.factory.proofs.Making.{found_lawful, found_untouched}
+use Rattle.std.proofs.Common.{rules}
+use Rattle.factory.proofs.Making.{found_lawful}
 use Rattle.factory.proofs.factory.Factory.found.Goals as goal
 
 -- src/founding.rt:98:5
