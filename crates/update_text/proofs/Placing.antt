@@ -1,9 +1,9 @@
-use Rattle.std.proofs.Common.{◌≡◌, ℕ, zero, suc, ◌+◌, ◌-◌, ◌/◌, ◌%◌, ◌*◌, ◌^◌, ◌<◌, ◌≤◌, List, [], ◌∷◌, ◌++◌, length, take, drop, set, decimal, sym, ap, ◌∙◌, append_assoc, append-nil, arith, lit<, length-append}
+use Rattle.std.proofs.Common.{◌≡◌, ℕ, zero, suc, ◌+◌, ◌-◌, ◌/◌, ◌%◌, ◌*◌, ◌^◌, ◌<◌, ◌≤◌, List, [], ◌∷◌, ◌++◌, length, take, drop, set, decimal, sym, ap, ◌∙◌, append_assoc, append-nil, arith, length-append}
 use Rattle.std.proofs.lemmas.List.{drop-set, drop_all, drop-drop, drop_at, take_at, take_all, length-drop}
 use Rattle.std.proofs.lemmas.Grind.{common_steps}
 use borrow.Rule.Slice.PartMut.{put_mid}
 use Rattle.update_text.specs.Line.{line}
-use Rattle.std.proofs.lemmas.Fmt.{decimal_digit, decimal_step, decimal_nonempty, length-decimal-le}
+use Rattle.std.proofs.lemmas.Fmt.{decimal_digit, decimal_step, decimal_nonempty}
 
 pub len_one : (n : ℕ) → n < 10 → length (decimal n) ≡ 1
 len_one n h = ap length (decimal_digit n h)
@@ -15,9 +15,6 @@ len_step n h f = ap length (decimal_step n h f) ∙ length-append (decimal (n / 
 pub len_power : (k n : ℕ) → 10 ^ k ≤ n → n < 10 * 10 ^ k → n < 2 ^ 64 → length (decimal n) ≡ k + 1
 len_power zero n l h f = len_one n (omega arith)
 len_power (suc k) n l h f = omega (arith, len_step n (omega arith) f, len_power k (n / 10) (omega arith) (omega arith) (omega arith))
-
-pub len_most : (n : ℕ) → n < 2 ^ 64 → length (decimal n) ≤ 20
-len_most n f = length-decimal-le 20 n (lit< tt) (omega arith) f
 
 -- the last digit of `rest` goes in at `at`, before the digits that stand there already
 pub put_digit : (n rest to at : ℕ) (out : List ℕ) → rest < 2 ^ 64 → to ≡ at + 1 → at < length out → length (decimal rest) ≡ to → decimal rest ++ drop to out ≡ decimal n

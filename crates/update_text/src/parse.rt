@@ -30,20 +30,27 @@ fn line<'a>(src: &'a [u8], key: &[u8]) -> Option<(u64, &'a [u8])>
     value(src.strip_prefix(key)?)
 }
 
-// The values of the lines that `src` consists of, or else its first bad line.
-pub(crate) fn values(src: &[u8]) -> Result<[u64; LINES], Refusal>
-    ensures { MatchResult result (λ vs. Values src.now vs) (λ e. (n : ℕ) × FirstBad n src.now × (e ≡ BadLine n)) }
+// The values of the lines that `src` consists of, or else the number of its first bad line.
+fn line_values(src: &[u8]) -> Result<[u64; LINES], usize>
+    ensures { MatchResult result (λ vs. Values src.now vs) (λ n. FirstBad n src.now) }
 {
     let mut values = [0; LINES];
     let mut rest = src;
     // by index: a `zip` with `iter_mut` tells a proof nothing of what was written
     for (i, &key) in KEYS.iter().enumerate() {
-        let (value, after) = line(rest, key).ok_or(Refusal::BadLine(i + 1))?;
+        let (value, after) = line(rest, key).ok_or(i + 1)?;
         values[i] = value;
         rest = after;
     }
     if !rest.is_empty() {
-        return Err(Refusal::BadLine(LINES + 1));
+        return Err(LINES + 1);
     }
     Ok(values)
+}
+
+// The same, with the first bad line as a refusal.
+pub(crate) fn values(src: &[u8]) -> Result<[u64; LINES], Refusal>
+    ensures { MatchResult result (λ vs. Values src.now vs) (λ e. (n : ℕ) × FirstBad n src.now × (e ≡ BadLine n)) }
+{
+    line_values(src).map_err(Refusal::BadLine)
 }

@@ -5,7 +5,7 @@ ghost use Rattle.update_text.specs.Text.{written};
 use crate::keys::{KEYS, LINES};
 
 // How many decimal digits `n` has.
-#[tactic(auto, using(crate::proofs::Placing::len_one, crate::proofs::Placing::len_power, crate::proofs::Placing::len_most))]
+#[tactic(auto, using(crate::proofs::Placing::len_one, crate::proofs::Placing::len_power))]
 fn digit_count(n: u64) -> usize
     ensures count { result ≡ length (decimal n) }
     ensures most { result ≤ 20 }

@@ -1,9 +1,9 @@
-use Rattle.std.proofs.Common.{◌+◌, ◌++◌, ◌<◌, refl, ap, ◌∙◌, arith, length-set, rules}
+use Rattle.std.proofs.Common.{◌++◌, ◌<◌, refl, ap, ◌∙◌, arith, length-set, rules}
 use Rattle.std.proofs.lemmas.Result.{err_from_is_err_and}
 use Rattle.std.proofs.lemmas.List.{take_all}
 use Rattle.update_text.specs.Line.{keys, lines}
 use Rattle.update_text.proofs.Runs.{key_now, line_more, line_bad, more_bytes, all_lines, ok_or_none, fit_zeros}
-use Rattle.update_text.proofs.parse.values.Goals as goal
+use Rattle.update_text.proofs.parse.line_values.Goals as goal
 
 pub loop-i-init : goal.loop-i-init
 unfolding keys
@@ -17,7 +17,7 @@ returns-in_err-value c =
     let i = c.loop-i.i in
     let l : i < 11 = search rules in
     let none = rw (c.in_err-value.ensures.ok_part, key_now) at c.line.ensures in
-    rw (p.1, p.2) (i + 1, line_bad c.args.src.now c.loop-i.values c.loop-i.rest.now i v.0 (search rules) v.1 v.2 none, ok_or_none c.line.result _ _ c.in_err-value.ensures.value c.in_err-value.ensures.ok_part)
+    rw (p.1, p.2, ok_or_none c.line.result _ _ c.in_err-value.ensures.value c.in_err-value.ensures.ok_part) (line_bad c.args.src.now c.loop-i.values c.loop-i.rest.now i v.0 (search rules) v.1 v.2 none)
 
 pub loop-i-preserved : goal.loop-i-preserved
 unfolding keys
@@ -35,7 +35,7 @@ unfolding keys
 returns-then-not-is_empty c =
     let v = c.loop-i.invariant in
     let e = v.2 ∙ ap (λ vs. lines keys vs ++ c.loop-i.rest.now) (take_all c.loop-i.i c.loop-i.values (search rules)) in
-    (12, more_bytes c.args.src.now c.loop-i.values c.loop-i.rest.now v.0 v.1 e (search rules), refl)
+    more_bytes c.args.src.now c.loop-i.values c.loop-i.rest.now v.0 v.1 e (search rules)
 
 pub returns : goal.returns
 unfolding keys
