@@ -66,5 +66,8 @@ fn a_scheme_of_either_kind_signs_and_checks(rt: HostRuntime) {
     assert_eq!(rt; signs(&mut register), Ok((true, false, 255)));
     let mut key = KeyRecord { k0: 1, k1: 2 };
     let tags = TagScheme::set_up(&mut key, 10).map(AnyScheme::Tag);
-    assert_eq!(rt; tags.and_then(|mut tags| signs(&mut tags)), Ok((true, false, 9)));
+    assert_eq!(rt;
+        tags.and_then(|mut tags| signs(&mut tags)),
+        Ok((true, false, 9))
+    );
 }
