@@ -1,6 +1,7 @@
 -- A factory as it is made.
-use Rattle.std.proofs.Common.{◌≡◌, ℕ, zero, suc, ◌<◌, ◌≤◌, Bool, true, false, List, [], ◌∷◌, ◌++◌, map, length, get_or, Ok, Err, Some, Result, sym, refl, ap, ◌∙◌, subst, arith}
+use Rattle.std.proofs.Common.{◌≡◌, ℕ, zero, suc, ◌<◌, ◌≤◌, Bool, true, false, List, [], ◌∷◌, ◌++◌, map, length, get_or, Ok, Err, Some, None, Option, Result, is_none, sym, refl, ap, ◌∙◌, subst, arith}
 use Rattle.std.specs.Result.{result_ok}
+use Rattle.std.proofs.lemmas.Bool.{false≢true}
 use Rattle.std.proofs.lemmas.Simd.{map-map}
 use Rattle.std.proofs.lemmas.Bool.Decides.{nat_tests}
 use Rattle.ledger.specs.declared.row.Row.{Row}
@@ -75,3 +76,16 @@ made_untouched (Ok c) m seat ds f law u = go c.rows refl
 
 pub open_given : (ds : List Delay) (rows : List Row) (given : List ℕ) → map figures rows ≡ map (λ d. open_figures (blocks_of d)) ds → map blocks_of ds ≡ map (delay_made true) given → map figures rows ≡ map (new_figures true) given
 open_given ds rows given r d = r ∙ sym (map-map open_figures blocks_of ds) ∙ ap (map open_figures) d ∙ map-map open_figures (delay_made true) given
+
+-- The same of a set-up that is accepted, in place of no children.
+
+pub found_start : (c : Children) (m : Model) (seat : ℕ) (ds : List ℕ) → Founds (Ok c) m seat ds → extended (Some c) m ≡ founded m seat ds
+found_start c m seat ds f = made_start (Ok c) m seat ds f
+
+pub found_lawful : (o : Option Children) (c : Children) (m : Model) (seat : ℕ) (ds : List ℕ) → is_none o ≡ true → Founds (Ok c) m seat ds → Lawful (extended o m) → Lawful (extended (Some c) m)
+found_lawful None c m seat ds e f law = made_lawful (Ok c) m seat ds f law
+found_lawful (Some d) c m seat ds e f law = absurd (false≢true e)
+
+pub found_untouched : (o : Option Children) (c : Children) (m : Model) (seat : ℕ) (ds : List ℕ) → is_none o ≡ true → Founds (Ok c) m seat ds → Lawful (extended o m) → Untouched (extended o m) → Untouched (extended (Some c) m)
+found_untouched None c m seat ds e f law u = made_untouched (Ok c) m seat ds f law u
+found_untouched (Some d) c m seat ds e f law u = absurd (false≢true e)

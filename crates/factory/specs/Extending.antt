@@ -56,6 +56,10 @@ founding_checks m seat delays =
     ∷ (nat_lt max_below (length m.places), 20)
     ∷ []
 
+-- the checks of founding where it may be that no factory is empty
+abbrev pub growing_checks : Bool → Model → ℕ → List ℕ → List (Bool × ℕ)
+growing_checks room m seat delays = (not room, 20) ∷ founding_checks m seat delays
+
 abbrev pub founds : Model → ℕ → List ℕ → Bool
 founds m seat delays = nat_lt seat (length m.places) && (not (has_children seat m.places) && (not (shows_state (status m seat)) && (good_delays delays && nat_le (length m.places) max_below)))
 

@@ -1,10 +1,11 @@
-ghost use Rattle.std.specs.Prelude.{◌≡◌, true, not, [], ◌∷◌, map, IfOk};
-ghost use Rattle.factory.specs.Extending.{founding_checks, founded, Founds};
-ghost use Rattle.factory.specs.Factories.{model_of};
+ghost use Rattle.std.specs.Prelude.{◌≡◌, true, false, not, [], ◌∷◌, map, IfOk};
+ghost use Rattle.factory.specs.Extending.{founding_checks, growing_checks, founded, Founds};
+ghost use Rattle.factory.specs.Factories.{model_of, is_empty};
 ghost use Rattle.ledger.specs.Laws.{Lawful, Untouched};
 ghost use Rattle.ledger.specs.Model.{status, shows_state};
 ghost use Rattle.ledger.specs.SetUps.{good_delays, figures, new_figures};
-ghost use Rattle.state.specs.Refusals.{answer, first};
+ghost use Rattle.ledger.specs.Steps.{Does};
+ghost use Rattle.state.specs.Refusals.{answer, first, Leaves};
 
 use crate::children::Children;
 use crate::factory::Factory;
@@ -70,5 +71,42 @@ impl<B: Host> Factory<B> {
     {
         let children = children(&below, seat, delays).ok();
         Factory { below, children }
+    }
+
+    // A factory that adds no place.
+    pub fn empty(below: B) -> Factory<B>
+        ensures below { result.below ≡ below }
+        ensures empty { is_empty result ≡ true }
+        ensures start { model_of B.Ledger.model result ≡ B.Ledger.model below }
+        ensures lawful { Lawful (B.Ledger.model below) → Lawful (model_of B.Ledger.model result) }
+        ensures untouched { Untouched (B.Ledger.model below) → Untouched (model_of B.Ledger.model result) }
+    {
+        Factory {
+            below,
+            children: None,
+        }
+    }
+
+    // Whether it adds no place.
+    pub fn is_empty(&self) -> bool
+        ensures { result ≡ is_empty self.now }
+    {
+        self.children.is_none()
+    }
+
+    // Eight places more, the children of the seat, with these delays. 20 if it has children already, or against a refusal of `check`.
+    #[tactic(auto, using(crate::proofs::Making::found_start, crate::proofs::Making::found_lawful, crate::proofs::Making::found_untouched))]
+    pub fn found(&mut self, seat: usize, delays: &[u64; 8]) -> Result<(), Refusal>
+        ensures step { Does result (model_of B.Ledger.model self.old) (model_of B.Ledger.model self.new) (growing_checks (is_empty self.old) (B.Ledger.model self.old.below) seat delays.now) (founded (B.Ledger.model self.old.below) seat delays.now) }
+        ensures below { self.new.below ≡ self.old.below }
+        ensures full { Leaves result (is_empty self.old) (is_empty self.new) (λ _. is_empty self.new ≡ false) }
+        ensures lawful { Lawful (model_of B.Ledger.model self.old) → Lawful (model_of B.Ledger.model self.new) }
+        ensures untouched { Lawful (model_of B.Ledger.model self.old) → Untouched (model_of B.Ledger.model self.old) → Untouched (model_of B.Ledger.model self.new) }
+    {
+        if !self.is_empty() {
+            return Err(Refusal::BadSetUp);
+        }
+        self.children = Some(children(&self.below, seat, delays)?);
+        Ok(())
     }
 }

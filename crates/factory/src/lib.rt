@@ -5,4 +5,5 @@ mod child;
 mod children;
 pub mod factory;
 pub mod founding;
+pub mod grow;
 pub mod host;

@@ -1,0 +1,3 @@
+pub mod Bases
+pub mod Laying
+pub mod Schemes
