@@ -6,66 +6,10 @@ use factory::factory::Factory;
 use frozen::snapshot::Frozen;
 use ledger::host::{Host, Ledger};
 use ledger::setup::SetUp;
-use ledger::view::{Standing, View};
 use output_chain::chain::OutputChain;
+use shown::{Answer, Paid, Shown};
 use state::raw::RawState;
-use state::refusal::Refusal;
 use state::state::State;
-use std::fmt;
-
-// Numbers, each with a space before it.
-#[derive(Drop)]
-struct Spaced<'a, T>(&'a [T]);
-
-impl<T: fmt::Display> fmt::Display for Spaced<'_, T> {
-    fn fmt<W: fmt::Write>(&self, f: &mut fmt::Formatter<W>) -> fmt::Result {
-        for number in self.0 {
-            write!(f, " {number}")?;
-        }
-        Ok(())
-    }
-}
-
-// What a place shows.
-#[derive(Drop)]
-struct Shown(View);
-
-impl fmt::Display for Shown {
-    fn fmt<W: fmt::Write>(&self, f: &mut fmt::Formatter<W>) -> fmt::Result {
-        let view = &self.0;
-        match view.parent {
-            None => write!(f, "root")?,
-            Some(parent) => write!(f, "child of {} index {}", parent.place, parent.index)?,
-        }
-        write!(f, " delay {} funding {} ", view.delay.blocks, view.funding)?;
-        let amounts = Spaced(&view.amounts);
-        match view.standing {
-            Standing::Shut => write!(f, "shut"),
-            Standing::Open => write!(f, "open"),
-            Standing::Posted { number, since } => {
-                write!(
-                    f,
-                    "posted {} since {} amounts{amounts}",
-                    number.value, since.blocks
-                )
-            }
-            Standing::Settled { number } => write!(f, "settled {} amounts{amounts}", number.value),
-        }
-    }
-}
-
-// The answer of a call.
-#[derive(Drop)]
-struct Answer(Result<(), Refusal>);
-
-impl fmt::Display for Answer {
-    fn fmt<W: fmt::Write>(&self, f: &mut fmt::Formatter<W>) -> fmt::Result {
-        match self.0 {
-            Ok(()) => write!(f, "ok"),
-            Err(refusal) => write!(f, "no {}", u8::from(refusal)),
-        }
-    }
-}
 
 fn look<L: Ledger>(rt: &HostRuntime, ledger: &L, place: usize) -> anyhow::Result<()> {
     match ledger.view(place) {
@@ -76,9 +20,7 @@ fn look<L: Ledger>(rt: &HostRuntime, ledger: &L, place: usize) -> anyhow::Result
 }
 
 fn print_account<L: Ledger>(rt: &HostRuntime, ledger: &L) -> anyhow::Result<()> {
-    let account = account_of(ledger);
-    let paid = Spaced(&account.paid);
-    println!(rt; "paid{paid} standing {}", account.standing)?;
+    println!(rt; "{}", Paid(account_of(ledger)))?;
     Ok(())
 }
 
