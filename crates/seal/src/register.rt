@@ -82,6 +82,7 @@ impl Scheme for Register {
     fn sign(&mut self, state: &State) -> Result<u64, Refusal>
         ensures signs { Signs RowGives (register_meaning self.old) state.now result (register_meaning self.new) }
         ensures rows { Leaves result self.old self.new (λ seal. (seal ≡ length self.old) × (self.new ≡ self.old ++ (state.now ∷ []))) }
+        ensures most { (length self.old ≤ 256) × (length self.new ≤ 256) }
     {
         if self.count() >= ROWS {
             return Err(Refusal::NoSealsLeft);
@@ -92,11 +93,15 @@ impl Scheme for Register {
     fn check(&self, state: &State, seal: u64) -> bool
         ensures good { result ≡ (register_meaning self.now).good state.now seal }
         ensures row { IsTrue result ↔ FilledWith self.now seal state.now }
+        ensures most { length self.now ≤ 256 }
     {
         seal < self.count() as u64 && self.row_is(seal as usize, state)
     }
 
-    fn left(&self) -> u64 {
+    fn left(&self) -> u64
+        ensures left { result ≡ (register_meaning self.now).left }
+        ensures most { length self.now ≤ 256 }
+    {
         (ROWS - self.count()) as u64
     }
 }

@@ -1,6 +1,6 @@
 #![tactic(auto)]
 
-ghost use Rattle.std.specs.Prelude.{length};
+ghost use Rattle.std.specs.Prelude.{◌≡◌, ◌<◌, ◌≤◌, [], ◌∷◌, ◌++◌, length};
 ghost use Rattle.std.specs.Iterator.{at_most};
 
 use anyhow::bail;
@@ -146,7 +146,11 @@ fn print_texts(rt: &HostRuntime, scheme: &mut TagScheme, input: &[u8]) -> anyhow
 }
 
 // The first line, without its newline, and what follows it.
-fn first_line(input: &[u8]) -> (&[u8], &[u8]) {
+fn first_line(input: &[u8]) -> (&[u8], &[u8])
+    ensures within { length result.0.now ≤ length input.now }
+    ensures ended { length result.0.now < length input.now → input.now ≡ result.0.now ++ (10 ∷ result.1.now) }
+    ensures whole { length result.0.now ≡ length input.now → (result.0.now ≡ input.now × result.1.now ≡ []) }
+{
     match input.iter().position(|b| *b == b'\n') {
         Some(end) => (&input[..end], &input[end + 1..]),
         None => (input, &[]),
