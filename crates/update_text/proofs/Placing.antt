@@ -16,6 +16,13 @@ pub len_power : (k n : ℕ) → 10 ^ k ≤ n → n < 10 * 10 ^ k → n < 2 ^ 64 
 len_power zero n l h f = len_one n (omega arith)
 len_power (suc k) n l h f = omega (arith, len_step n (omega arith) f, len_power k (n / 10) (omega arith) (omega arith) (omega arith))
 
+pub one_digit : (rest : ℕ) → rest < 2 ^ 64 → length (decimal rest) ≡ 1 → rest < 10
+one_digit rest f l = grind (arith, len_step, decimal_nonempty)
+
+-- the first digit goes in before those that stand there already
+pub put_last : (n rest : ℕ) (out : List ℕ) → rest < 10 → 0 < length out → decimal rest ++ drop 1 out ≡ decimal n → set out 0 (48 + rest) ≡ decimal n
+put_last n rest out s l e = drop-set out 0 (48 + rest) l ∙ ap (λ xs. xs ++ drop 1 out) (sym (decimal_digit rest s)) ∙ e
+
 -- the last digit of `rest` goes in at `at`, before the digits that stand there already
 pub put_digit : (n rest to at : ℕ) (out : List ℕ) → rest < 2 ^ 64 → to ≡ at + 1 → at < length out → length (decimal rest) ≡ to → decimal rest ++ drop to out ≡ decimal n
     → (at ≡ 0 → set out at (48 + rest % 10) ≡ decimal n) × (0 < at → length (decimal (rest / 10)) ≡ at) × (0 < at → decimal (rest / 10) ++ drop at (set out at (48 + rest % 10)) ≡ decimal n)

@@ -1,7 +1,5 @@
 ghost use Rattle.std.specs.Prelude.{◌≡◌, ◌↔◌, ℕ, ◌^◌, ◌<◌, IsTrue, MatchOption, decimal, length, slice_index};
 
-use std::str::from_utf8;
-
 // Whether the digits begin with a zero that is not the whole number.
 fn leading_zero(digits: &[u8]) -> bool
     ensures { IsTrue result ↔ ((1 < length digits.now) × (slice_index digits.now 0 ≡ 48)) }
@@ -10,16 +8,23 @@ fn leading_zero(digits: &[u8]) -> bool
 }
 
 // The number that these bytes are the decimal digits of.
-#[tactic(auto, using(crate::proofs::Decimals::plus_none, crate::proofs::Decimals::zero_none, crate::proofs::Decimals::utf8_none, crate::proofs::Decimals::parsed))]
+// A loop of its own: `from_utf8` and `parse` take half as much time again for a text of small numbers.
 pub fn number(digits: &[u8]) -> Option<u64>
     ensures { MatchOption result ((v : ℕ) → v < 2 ^ 64 → digits.now ≡ decimal v → ⊥) (λ v. digits.now ≡ decimal v) }
 {
-    // `parse` also takes a plus and leading zeros
-    if digits.starts_with(b"+") || leading_zero(digits) {
+    if digits.is_empty() {
         return None;
     }
-    let Ok(text) = from_utf8(digits) else {
+    if leading_zero(digits) {
         return None;
-    };
-    text.parse().ok()
+    }
+    let mut value: u64 = 0;
+    for byte in digits {
+        if !byte.is_ascii_digit() {
+            return None;
+        }
+        let digit = u64::from(*byte - b'0');
+        value = value.checked_mul(10)?.checked_add(digit)?;
+    }
+    Some(value)
 }

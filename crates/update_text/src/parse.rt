@@ -1,4 +1,4 @@
-ghost use Rattle.std.specs.Prelude.{◌≡◌, ◌==◌, position, ℕ, List, MatchOption, MatchResult};
+ghost use Rattle.std.specs.Prelude.{◌≡◌, ◌==◌, position, take, ℕ, List, MatchOption, MatchResult};
 ghost use Rattle.state.specs.declared.refusal.Refusal.{Refusal};
 ghost use Rattle.state.specs.declared.refusal.Refusal.TheVariants.{BadLine};
 ghost use Rattle.update_text.specs.Line.{Begins, FirstBad, HasValue, Values};
@@ -7,18 +7,23 @@ use crate::decimal::number;
 use crate::keys::{KEYS, LINES};
 use state::refusal::Refusal;
 
-// Where the first line of `src` ends, if a newline ends it.
-fn line_end(src: &[u8]) -> Option<usize>
-    ensures { result ≡ position (λ b. b == 10) src.now }
+// A number has at most 20 digits, so the newline after it is among the first 21 bytes.
+const NUMBER_LINE: usize = 21;
+
+// Where the number that `src` begins with can end: at the first newline, if one is near enough.
+// No byte after that is looked at, so that a bad line costs no more than a good one.
+fn number_end(src: &[u8]) -> Option<usize>
+    ensures { result ≡ position (λ b. b == 10) (take 21 src.now) }
 {
-    src.iter().position(|b| *b == b'\n')
+    let near = &src[..src.len().min(NUMBER_LINE)];
+    near.iter().position(|b| *b == b'\n')
 }
 
 // The number that `src` begins with and that a newline ends, and the bytes after it.
 fn value(src: &[u8]) -> Option<(u64, &[u8])>
     ensures { MatchOption result ((v : ℕ) (rest : List ℕ) → HasValue src.now v rest → ⊥) (λ p. HasValue src.now p.0 p.1.now) }
 {
-    let end = line_end(src)?;
+    let end = number_end(src)?;
     let value = number(&src[..end])?;
     Some((value, &src[end + 1..]))
 }

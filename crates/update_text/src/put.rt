@@ -10,7 +10,10 @@ fn digit_count(n: u64) -> usize
     ensures count { result ≡ length (decimal n) }
     ensures most { result ≤ 20 }
 {
-    n.checked_ilog10().map_or(1, |power| power as usize + 1)
+    if n < 10 {
+        return 1; // the most common, and no logarithm is taken
+    }
+    n.ilog10() as usize + 1
 }
 
 // Fills `out`, which has a place for each digit of `n`, with them.
@@ -20,10 +23,11 @@ fn put_decimal(out: &mut [u8], n: u64)
 {
     let mut rest = n;
     // by places: `iter_mut().rev()` tells a proof nothing of what was written
-    for place in (0..out.len()).rev() {
+    for place in (1..out.len()).rev() {
         out[place] = b'0' + (rest % 10) as u8;
         rest /= 10;
     }
+    out[0] = b'0' + rest as u8; // which is one digit
 }
 
 // Writes `bytes` at the start of `out`, and says how many they are.
