@@ -1,11 +1,15 @@
 -- What is held of every place of a ledger is the ledger.
-use Rattle.std.proofs.Common.{◌≡◌, ℕ, suc, ◌<◌, ◌≤◌, List, [], ◌∷◌, map, length, get_or, cond, count_by, cond, Some, None, Option, sym, refl, ap, subst, ap₂, ◌∙◌, arith}
-use Rattle.std.proofs.lemmas.List.Sums.{sum_by-cons}
-use Rattle.std.specs.Option.{is_some}
+use Rattle.std.proofs.Common.{◌≡◌, ℕ, zero, suc, ◌<◌, ◌≤◌, List, [], ◌∷◌, map, length, get_or, replicate, Some, None, Option, sym, refl, ap, subst, ap₂, ◌∙◌, arith}
 use Rattle.ledger.specs.declared.view.View.{View}
 use Rattle.ledger.specs.Laws.{Laid}
 use Rattle.ledger.specs.Model.{Model, Place, Stage, fresh, holds, done, nowhere, place_at, value_of, status_by, PlaceShows}
 use Rattle.frozen.specs.Holding.{Holds, held_by, held_place, held_views, held_model}
+
+-- at first nothing is held
+pub none_at : (n p : ℕ) → get_or (replicate {A = Option View} n None) p None ≡ None
+none_at zero p = refl
+none_at (suc n) zero = refl
+none_at (suc n) (suc p) = none_at n p
 
 -- what is held is what was shown
 held_back : (v : Option ℕ) (s : Stage) → held_by (status_by v s) ≡ s
@@ -61,8 +65,3 @@ module _ (m : Model) (height : ℕ) (vs : List (Option View)) (long : length vs 
 
   pub copy_holds : (k : ℕ) → Holds (get_or vs k None) (held_model height vs) k
   copy_holds = subst (λ (n : Model). (k : ℕ) → Holds (get_or vs k None) n k) (sym copy_is) all
-
-pub held_count : (vs : List (Option View)) → count_by is_some vs ≡ length (map held_place (held_views vs))
-held_count [] = refl
-held_count (None ∷ vs) = held_count vs
-held_count (Some v ∷ vs) = sum_by-cons (λ o. cond (is_some o) 1 0) (Some v) vs ∙ omega (arith, held_count vs)

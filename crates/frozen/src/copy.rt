@@ -20,9 +20,8 @@ impl Ledger for Frozen {
         self.height // of the moment
     }
 
-    #[tactic(auto, using(crate::proofs::Copying::held_count))]
     fn count(&self) -> usize {
-        self.views.iter().filter(|view| view.is_some()).count()
+        self.count // of the moment
     }
 
     fn view(&self, place: usize) -> Result<View, Refusal> {
@@ -39,9 +38,13 @@ fn views_of<L: Ledger>(ledger: &L) -> [Option<View>; 64]
     ensures { (p : ℕ) → Holds (slice_index_or result p None) (L.Ledger.model ledger.now) p }
 {
     let mut views = [None; 64];
+    let count = ledger.count();
     // a loop: `from_fn` tells a proof nothing of a ledger that its closure captures
     for (place, view) in views.iter_mut().enumerate() {
-        *view = ledger.view(place).ok();
+        // a place that is not there is not asked for
+        if place < count {
+            *view = ledger.view(place).ok();
+        }
     }
     views
 }
@@ -54,6 +57,7 @@ impl Frozen {
     {
         Frozen {
             height: ledger.height(),
+            count: ledger.count(),
             views: views_of(ledger),
         }
     }
