@@ -62,7 +62,7 @@ module _ {F : Type 0} (g : Mut F (ℕ × Unit {0}) (Result Delay Refusal)) (one 
       record { answer = bad.1 ∙ ap (λ b. first ((not b, 20) ∷ [])) (sym (list_all_at good_delay xs k.1.0 k.0 k.1.1.0 is)); value = tt }
 
 -- the same figure for each
-same_figure : (make : ℕ → ℕ) (y : ℕ) → ((x : ℕ) → make x ≡ y) → (xs : List ℕ) (n : ℕ) → length xs ≡ n → replicate n y ≡ map make xs
+pub same_figure : {Z : Type 0} (make : ℕ → Z) (y : Z) → ((x : ℕ) → make x ≡ y) → (xs : List ℕ) (n : ℕ) → length xs ≡ n → replicate n y ≡ map make xs
 same_figure make y same [] n e = ap (λ k. replicate k y) (sym e)
 same_figure make y same (x ∷ xs) n e =
     ap (λ k. replicate k y) (sym e) ∙ ap (λ zs. y ∷ zs) (same_figure make y same xs (length xs) refl) ∙ ap (λ z. z ∷ map make xs) (sym (same x))

@@ -16,6 +16,14 @@ pub funding_capped : (good : Bool) (f : ℕ) → funding_made good f ≤ max_tot
 funding_capped true f = grind (arith, nat_tests)
 funding_capped false f = omega arith
 
+pub fundings_capped : (good : Bool) (fs ys : List ℕ) → ys ≡ map (funding_made good) fs → (k : ℕ) → get_or ys k 0 ≤ max_total
+fundings_capped good fs ys e k = subst (λ zs. get_or zs k 0 ≤ max_total) (sym e) (each fs k)
+  where
+    each : (xs : List ℕ) (i : ℕ) → get_or (map (funding_made good) xs) i 0 ≤ max_total
+    each [] i = omega arith
+    each (x ∷ xs) zero = funding_capped good x
+    each (x ∷ xs) (suc i) = each xs i
+
 pub delay_within : (good : Bool) (d : ℕ) → (min_delay ≤ delay_made good d) × (delay_made good d ≤ max_delay)
 delay_within true d = (grind (arith, nat_tests), grind (arith, nat_tests))
 delay_within false d = (omega arith, omega arith)

@@ -1,8 +1,9 @@
-ghost use Rattle.std.specs.Prelude.{◌≡◌, true, not, ◌||◌, [], ◌∷◌, map, IfOk, nat_lt};
-ghost use Rattle.ledger.specs.SetUps.{good_delay, good_delays, set_up_checks, is_good, delay_made, funding_made, blocks_of, funding_in, blocks_in, MadeOf};
+ghost use Rattle.std.specs.Prelude.{◌≡◌, ℕ, ◌≤◌, true, not, ◌||◌, [], ◌∷◌, map, slice_index, IfOk, nat_lt};
+ghost use Rattle.ledger.specs.SetUps.{good_delay, good_delays, good_fundings, set_up_checks, is_good, delay_made, funding_made, figures, new_figures, blocks_of, funding_in, blocks_in, MadeOf};
 ghost use Rattle.state.specs.Limits.{max_delay, max_total};
 ghost use Rattle.state.specs.Refusals.{answer, first};
 
+use crate::row::Row;
 use crate::setup::{SetUp, Terms};
 use state::making::MAX_TOTAL;
 use state::quantity::{Delay, MAX_DELAY};
@@ -30,6 +31,65 @@ pub fn delays_of(given: &[u64; 8]) -> Result<[Delay; 8], Refusal>
     ensures value { IfOk result (λ delays. map blocks_of delays ≡ map (delay_made true) given.now) }
 {
     given.try_map(delay_of)
+}
+
+// Whether a set-up takes these delays.
+pub fn good_delays(given: &[u64; 8]) -> bool
+    ensures { result ≡ good_delays given.now }
+{
+    given.iter().all(|delay| delay_of(*delay).is_ok())
+}
+
+// Whether a set-up takes these fundings.
+fn good_fundings(given: &[u64; 8]) -> bool
+    ensures { result ≡ good_fundings given.now }
+{
+    given.iter().all(|funding| *funding <= MAX_TOTAL)
+}
+
+// The delay of a place that is made; against a bad set-up it is the longest.
+pub fn delay_made(good: bool, given: u64) -> Delay
+    ensures { result.blocks ≡ delay_made good given }
+{
+    match delay_of(given) {
+        Ok(delay) if good => delay,
+        _ => Delay { blocks: MAX_DELAY },
+    }
+}
+
+// A row that holds no state; against a bad delay it has the longest.
+fn row_made(given: u64) -> Row
+    ensures { figures result ≡ new_figures true given }
+{
+    Row::open(delay_made(true, given))
+}
+
+// Rows that hold no state; against a bad set-up all have the longest delay.
+pub fn rows_made(delays: &[u64; 8], good: bool) -> [Row; 8]
+    ensures { map figures result ≡ map (new_figures good) delays.now }
+{
+    if !good {
+        return [Row::open(delay_made(false, 0)); 8];
+    }
+    delays.map(row_made)
+}
+
+// The funding of a root that is made; against a bad one it is 0.
+fn funding_made(given: u64) -> u64
+    ensures { result ≡ funding_made true given }
+{
+    if given <= MAX_TOTAL { given } else { 0 }
+}
+
+// The fundings of roots that are made; against a bad set-up all are 0.
+pub fn fundings_made(fundings: &[u64; 8], good: bool) -> [u64; 8]
+    ensures value { result ≡ map (funding_made good) fundings.now }
+    ensures capped { (k : ℕ) → slice_index result k ≤ max_total }
+{
+    if !good {
+        return [0; 8];
+    }
+    fundings.map(funding_made)
 }
 
 impl Terms {
@@ -76,14 +136,16 @@ impl SetUp {
     pub fn is_good(&self) -> bool
         ensures { result ≡ is_good self.now }
     {
-        self.terms().is_ok()
+        good_fundings(&self.fundings) && good_delays(&self.delays)
     }
 
     // 20 if a figure is not one that a set-up takes.
     pub fn check(&self) -> Result<(), Refusal>
         ensures { answer result ≡ first (set_up_checks self.now) }
     {
-        self.terms()?;
+        if !good_fundings(&self.fundings) || !good_delays(&self.delays) {
+            return Err(Refusal::BadSetUp);
+        }
         Ok(())
     }
 
