@@ -1,6 +1,6 @@
 #![tactic(auto)]
 
-ghost use Rattle.std.specs.Prelude.{◌≡◌, ◌<◌, ◌≤◌, [], ◌∷◌, ◌++◌, length};
+ghost use Rattle.std.specs.Prelude.{◌≡◌, ◌==◌, ◌<◌, ◌≤◌, [], ◌∷◌, ◌++◌, MatchOption, length, position, take};
 ghost use Rattle.std.specs.Iterator.{at_most};
 
 use anyhow::bail;
@@ -145,13 +145,22 @@ fn print_texts(rt: &HostRuntime, scheme: &mut TagScheme, input: &[u8]) -> anyhow
     Ok(())
 }
 
+// Where the first newline of the input stands.
+fn newline(input: &[u8]) -> Option<usize>
+    ensures { result ≡ position (λ b. b == 10) input.now }
+{
+    input.iter().position(|b| *b == b'\n')
+}
+
 // The first line, without its newline, and what follows it.
+#[tactic(auto, using(crate::proofs::Lines::around))]
 fn first_line(input: &[u8]) -> (&[u8], &[u8])
+    ensures line { MatchOption (position (λ b. b == 10) input.now) (result.0.now ≡ input.now) (λ end. result.0.now ≡ take end input.now) }
     ensures within { length result.0.now ≤ length input.now }
     ensures ended { length result.0.now < length input.now → input.now ≡ result.0.now ++ (10 ∷ result.1.now) }
     ensures whole { length result.0.now ≡ length input.now → (result.0.now ≡ input.now × result.1.now ≡ []) }
 {
-    match input.iter().position(|b| *b == b'\n') {
+    match newline(input) {
         Some(end) => (&input[..end], &input[end + 1..]),
         None => (input, &[]),
     }
